@@ -1,3 +1,4 @@
 pub mod Keys
 pub mod Findings
 pub mod Asks
+pub mod Read

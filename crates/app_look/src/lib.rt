@@ -10,7 +10,7 @@ mod records;
 mod sensors;
 mod session;
 
-pub use reading::{NamedRecords, look_and_name, read_names};
+pub use reading::{NamedRecords, look_and_name, names_over_udp, read_names};
 pub use records::{
     Came, Found, LookFault, Looked, StopFault, look_and_stay, look_at_each, look_over_udp,
 };

@@ -14,6 +14,7 @@ use Rattle.app_journal.specs.declared.undo_files.UndoFiles.{UndoFiles}
 use Rattle.app_journal.specs.Beside.{GivesUndo}
 use Rattle.text_undo.specs.UndoText.{text_of}
 use Rattle.undo_plans.specs.declared.undo_list.UndoList.{UndoList}
+use Rattle.app_apply.specs.declared.kept_calls.Reach.{Reach}
 use Rattle.app_apply.specs.declared.outcome.Outcome.{Outcome}
 use Rattle.app_revert.specs.declared.reverting.Reverted.{Reverted}
 use Rattle.app_revert.specs.Looks.{doubts}
@@ -50,14 +51,15 @@ module _ {Files Refused : Type 0} (files : written.Ghosts Files) (beside : UndoF
 
   -- ---- the whole way
 
-  -- the looks behind it told something, or memory for them was refused
-  pub come_by : (agains : ℕ) (standing : Standing) (before after : Manager) (outcome : Outcome) (came : Result Reverted Refused) (old new : Files)
-      → RevertEnd files beside {Refused = Refused} agains standing before after (Ok outcome) old new → IfOk came (IsReverted agains after (doubts before) outcome)
-      → RevertCome files beside agains standing before came old new
-  come_by agains standing before after outcome (Ok reverted) old new ends is = (
-    subst (λ (m : Manager). RevertEnd files beside {Refused = Refused} agains standing before m (Ok reverted.outcome) old new) (sym is.0)
-        (subst (λ (o : Outcome). RevertEnd files beside {Refused = Refused} agains standing before after (Ok o) old new) (sym is.1) ends),
-    subst (λ (m : Manager). Looks agains m (doubts before) reverted.outcome reverted.looked) (sym is.0)
-        (subst (λ (o : Outcome). Looks agains after (doubts before) o reverted.looked) (sym is.1) is.2),
+  -- the looks behind it told something, and names were read; or memory for that was refused
+  pub come_by : (reach : Reach) (standing : Standing) (before after : Manager) (outcome : Outcome) (came : Result Reverted Refused) (old new : Files)
+      → RevertEnd files beside {Refused = Refused} reach.again standing before after (Ok outcome) old new
+      → IfOk came (IsReverted reach after (doubts before) outcome) → RevertCome files beside reach standing before came old new
+  come_by reach standing before after outcome (Ok reverted) old new ends is = (
+    subst (λ (m : Manager). RevertEnd files beside {Refused = Refused} reach.again standing before m (Ok reverted.outcome) old new) (sym is.0)
+        (subst (λ (o : Outcome). RevertEnd files beside {Refused = Refused} reach.again standing before after (Ok o) old new) (sym is.1) ends),
+    subst (λ (m : Manager). Looks reach.again m (doubts before) reverted.outcome reverted.looked) (sym is.0)
+        (subst (λ (o : Outcome). Looks reach.again after (doubts before) o reverted.looked) (sym is.1) is.2),
+    is.3,
   )
-  come_by agains standing before after outcome (Err refused) old new ends is = inr (after, Ok outcome, ends)
+  come_by reach standing before after outcome (Err refused) old new ends is = inr (after, Ok outcome, ends)

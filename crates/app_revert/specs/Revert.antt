@@ -55,6 +55,7 @@ use Rattle.app_apply.specs.Ends.{SaysOn, SaysUnreadOn, stream_for}
 use Rattle.app_apply.specs.Guard.{HoldsOwn, PutsOwnAside, is_nothing}
 use Rattle.app_apply.specs.Kept.{KeepsWay, most_turns}
 use Rattle.app_revert.specs.Looks.{LooksBehind, TellsNothing, doubts}
+use Rattle.app_revert.specs.Names.{ReadsBehind}
 use Rattle.app_revert.specs.Statuses.{status_behind}
 
 -- all that was done was taken back
@@ -209,21 +210,23 @@ abbrev pub Looks : (agains : ℕ) → (after : Manager) → (doubt : List Asked)
 Looks agains after doubt (Ended Undone (Ok done)) looked = (list : UndoList) × HasList after list × LooksBehind agains list doubt looked
 Looks agains after doubt came looked = TellsNothing looked
 
--- this came of a manager, and so the looks behind it
-abbrev pub IsReverted : (agains : ℕ) → (after : Manager) → (doubt : List Asked) → Outcome → Reverted → Type 0
-IsReverted agains after doubt outcome reverted =
-    (reverted.manager ≡ after) × (reverted.outcome ≡ outcome) × Looks agains after doubt outcome reverted.looked
+-- this came of a manager, and so the looks behind it, and the names behind these
+abbrev pub IsReverted : Reach → (after : Manager) → (doubt : List Asked) → Outcome → Reverted → Type 0
+IsReverted reach after doubt outcome reverted =
+    (reverted.manager ≡ after) × (reverted.outcome ≡ outcome) × Looks reach.again after doubt outcome reverted.looked
+    × ReadsBehind reach reverted.looked reverted.names
 
 module _ {Files Refused : Type 0} (files : written.Ghosts Files) (beside : UndoFiles) where
-  -- So a manager takes back what it did, of which FILE has this standing, and behind that each record is looked at. Or memory is refused: before,
-  -- on the way, or for a look.
-  abbrev pub RevertCome : (agains : ℕ) → Standing → (before : Manager) → Result Reverted Refused → (old new : Files) → Type 0
-  RevertCome agains standing before (Ok reverted) old new =
-      RevertEnd files beside {Refused = Refused} agains standing before reverted.manager (Ok reverted.outcome) old new
-      × Looks agains reverted.manager (doubts before) reverted.outcome reverted.looked
-  RevertCome agains standing before (Err refused) old new =
+  -- So a manager takes back what it did, of which FILE has this standing; behind that each record is looked at, and behind these looks the names are
+  -- read of those that aren't as before. Or memory is refused: before, on the way, or for a look or the names.
+  abbrev pub RevertCome : Reach → Standing → (before : Manager) → Result Reverted Refused → (old new : Files) → Type 0
+  RevertCome reach standing before (Ok reverted) old new =
+      RevertEnd files beside {Refused = Refused} reach.again standing before reverted.manager (Ok reverted.outcome) old new
+      × Looks reach.again reverted.manager (doubts before) reverted.outcome reverted.looked
+      × ReadsBehind reach reverted.looked reverted.names
+  RevertCome reach standing before (Err refused) old new =
       (new ≡ old)
-      ⊎ ((after : Manager) × (came : Result Outcome Refused) × RevertEnd files beside {Refused = Refused} agains standing before after came old new)
+      ⊎ ((after : Manager) × (came : Result Outcome Refused) × RevertEnd files beside {Refused = Refused} reach.again standing before after came old new)
 
 -- ---- what FILE says
 
@@ -287,7 +290,7 @@ module _ {Files Stdout Stderr : Type 0} (out : Stdout → Option (List ℕ)) (er
   RevertEndsOver beside standing manager words before after old new result =
       (LacksPort manager words.reach true × (after ≡ before) × RunEnds out err (SaysOn (stream_for words.json) RefusedWords) old new result)
       ⊎ (LacksPort manager words.reach false
-      × (came : Result Reverted AllocError) × RevertCome files beside words.reach.again standing manager came before after × EndsBy words.json came old new result)
+      × (came : Result Reverted AllocError) × RevertCome files beside words.reach standing manager came before after × EndsBy words.json came old new result)
 
   -- so ends the revert of a text in FILE; one that is neither a journal nor an undo text is refused, and nothing is done
   abbrev pub RevertEndsOn : UndoFiles → (text : List ℕ) → RevertWords → (before after : Files) → (old new : Console Stdout Stderr) → ℕ → Type 0

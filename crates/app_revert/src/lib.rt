@@ -4,6 +4,7 @@
 
 mod leaving;
 mod looking;
+mod naming;
 pub mod reading;
 mod reverted_json;
 mod reverted_words;

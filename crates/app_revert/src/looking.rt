@@ -25,7 +25,7 @@ use undo_look::{Looker, Seen, Target};
 use undo_plans::{Requests, UndoList, UndoRequest};
 
 /// How often a look sends a request again.
-const LOOK_RETRIES: u8 = 3;
+pub(crate) const LOOK_RETRIES: u8 = 3;
 
 /// What a look at a record showed.
 #[derive(Clone, Copy, Debug, PartialEq, Eq)]

@@ -6,6 +6,7 @@ ghost use Rattle.app_apply.specs.Ends.{SaysOn, stream_for};
 ghost use Rattle.undo_core.specs.Journals.{kept_by};
 ghost use Rattle.app_journal.specs.Standing.{IsStanding};
 ghost use Rattle.app_revert.specs.Looks.{doubts};
+ghost use Rattle.app_revert.specs.Names.{ReadsBehind};
 ghost use Rattle.app_revert.specs.Revert.{IsReverted, LacksPort, NeedsSmbus};
 ghost use Rattle.app_revert.specs.Revert.{Looks};
 ghost use Rattle.app_revert.specs.Revert.{RevertCome, RevertEnd, Reverts, RevertsMade};
@@ -15,6 +16,7 @@ ghost use Rattle.app_revert.specs.Statuses.{status_behind};
 
 use crate::leaving::{leave, leave_in};
 use crate::looking::{Looked, doubt_of, look_behind};
+use crate::naming::names_behind;
 use crate::reading::manager_of;
 use crate::reverted_json::{held_json, revert_json};
 use crate::reverted_words::{revert_text, unfit_text};
@@ -30,6 +32,7 @@ use app_run::{Progress, requests_use};
 use std::alloc::{AllocError, Global};
 use std::io;
 use std::net::Net;
+use table_names::Names;
 use two_wire::Bus;
 use undo_core::{Manager, Phase};
 use undo_journal::KeptStage;
@@ -53,6 +56,8 @@ pub struct Reverted {
     pub outcome: Outcome,
     /// What the looks behind it told. Where not all was taken back, there were none.
     pub looked: Looked,
+    /// The names of the sensors and attributes whose records aren't as before, as far as they could be read.
+    pub names: Names,
 }
 
 impl Reverted {
@@ -195,7 +200,26 @@ fn look_after<R: Net>(
     }
 }
 
-/// What came of a manager, and of the looks behind that.
+/// Looks at each record, where all was taken back, and reads the names of those that aren't as before.
+fn look_and_name<R: Net>(
+    rt: &R,
+    alloc: Global,
+    manager: &Manager,
+    outcome: &Outcome,
+    doubt: &Requests,
+    reach: &Reach,
+) -> Result<(Looked, Names), AllocError>
+    requires { length doubt.now.members ≤ 1 }
+    ensures looks { IfOk result
+        (λ told. Looks reach.now.again manager.now doubt.now.members outcome.now told.0) }
+    ensures names { IfOk result (λ told. ReadsBehind reach.now told.0 told.1) }
+{
+    let looked = look_after(rt, alloc, manager, outcome, doubt, reach)?;
+    let names = names_behind(rt, alloc, &looked, reach)?;
+    Ok((looked, names))
+}
+
+/// What came of a manager, of the looks behind that, and of the names behind these.
 fn reverted_as<R: Net>(
     rt: &R,
     alloc: Global,
@@ -205,13 +229,14 @@ fn reverted_as<R: Net>(
     reach: &Reach,
 ) -> Result<Reverted, AllocError>
     requires { length doubt.now.members ≤ 1 }
-    ensures { IfOk result (IsReverted reach.now.again manager doubt.now.members outcome) }
+    ensures { IfOk result (IsReverted reach.now manager doubt.now.members outcome) }
 {
-    match look_after(rt, alloc, &manager, &outcome, doubt, reach) {
-        Ok(looked) => Ok(Reverted {
+    match look_and_name(rt, alloc, &manager, &outcome, doubt, reach) {
+        Ok((looked, names)) => Ok(Reverted {
             manager,
             outcome,
             looked,
+            names,
         }),
         Err(why) => {
             drop(manager);
@@ -220,7 +245,8 @@ fn reverted_as<R: Net>(
     }
 }
 
-/// Takes back what a manager did, of which FILE has this standing, and looks behind that at each record, and at that of the step in doubt.
+/// Takes back what a manager did, of which FILE has this standing, and looks behind that at each record, and at that of the step in doubt. Behind the
+/// looks the names are read of those that aren't as before.
 fn revert_doubted<F: WritesFiles, P: io::Write, R: Net>(
     rt: &R,
     alloc: Global,
@@ -233,7 +259,7 @@ fn revert_doubted<F: WritesFiles, P: io::Write, R: Net>(
     progress: &mut Progress<P>,
 ) -> Result<Reverted, AllocError>
     requires { doubt.now.members ≡ doubts manager }
-    ensures comes { RevertCome F.WritesFiles beside.now reach.now.again standing manager result
+    ensures comes { RevertCome F.WritesFiles beside.now reach.now standing manager result
         files.old files.new }
     ensures untold { progress.old.on ≡ false → progress.new ≡ progress.old }
 {
@@ -267,7 +293,7 @@ fn revert_looked<F: WritesFiles, P: io::Write, R: Net>(
     reach: &Reach,
     progress: &mut Progress<P>,
 ) -> Result<Reverted, AllocError>
-    ensures comes { RevertCome F.WritesFiles beside.now reach.now.again standing manager result
+    ensures comes { RevertCome F.WritesFiles beside.now reach.now standing manager result
         files.old files.new }
     ensures untold { progress.old.on ≡ false → progress.new ≡ progress.old }
 {

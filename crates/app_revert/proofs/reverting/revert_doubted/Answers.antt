@@ -11,9 +11,9 @@ reverted_as-requires g c = subst (λ (doubt : List Asked). length doubt ≤ 1) (
 
 pub returns-in-Ok-clause-comes : goal.returns-in-Ok-clause-comes
 returns-in-Ok-clause-comes g c =
-    come_by g.F.WritesFiles c.args.beside.now c.args.reach.now.again c.args.standing c.args.manager c.revert_standing-came.new.manager c.in-Ok.outcome c.reverted_as.result
+    come_by g.F.WritesFiles c.args.beside.now c.args.reach.now c.args.standing c.args.manager c.revert_standing-came.new.manager c.in-Ok.outcome c.reverted_as.result
     c.args.files.now c.revert_standing-came.new.files c.in-Ok.ensures.ends
-    (subst (λ (doubt : List Asked). IfOk c.reverted_as.result (IsReverted c.args.reach.now.again c.revert_standing-came.new.manager doubt c.in-Ok.outcome)) c.requires c.reverted_as.ensures)
+    (subst (λ (doubt : List Asked). IfOk c.reverted_as.result (IsReverted c.args.reach.now c.revert_standing-came.new.manager doubt c.in-Ok.outcome)) c.requires c.reverted_as.ensures)
 
 pub returns-in-Err-clause-comes : goal.returns-in-Err-clause-comes
 returns-in-Err-clause-comes g c = inr (c.revert_standing-came.new.manager, Err c.in-Err.why, c.in-Err.ensures.ends)

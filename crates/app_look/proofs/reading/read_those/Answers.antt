@@ -1,5 +1,5 @@
 use Rattle.app_look.proofs.Asks.{asks_both}
-use Rattle.app_look.proofs.reading.read_names.Goals as goal
+use Rattle.app_look.proofs.reading.read_those.Goals as goal
 
 pub returns-in_err-read_attributes : goal.returns-in_err-read_attributes
 returns-in_err-read_attributes c =
