@@ -189,8 +189,8 @@ fn apply_or_none<F: TextFiles + WritesFiles, W: io::Write, E: io::Write, P: io::
     progress: &mut Progress<P>,
     console: &mut Console<W, E>,
 ) -> u8
-    ensures ends { AppliesOrNone W.contents E.contents F.TextFiles F.WritesFiles named.plan words.now
-        files.old files.new console.old console.new result }
+    ensures ends { AppliesOrNone W.contents E.contents F.TextFiles F.WritesFiles named.plan
+        words.now files.old files.new console.old console.new result }
     ensures untold { progress.old.on ≡ false → progress.new ≡ progress.old }
 {
     match words_back(alloc, words) {
@@ -256,8 +256,8 @@ fn change_others<F: TextFiles + WritesFiles, W: io::Write, E: io::Write, P: io::
     progress: &mut Progress<P>,
     console: &mut Console<W, E>,
 ) -> u8
-    ensures ends { TellsFirst W.contents E.contents F.TextFiles F.WritesFiles kept.named.plan words.now
-        files.old files.new console.old console.new result }
+    ensures ends { TellsFirst W.contents E.contents F.TextFiles F.WritesFiles kept.named.plan
+        words.now files.old files.new console.old console.new result }
     ensures untold { progress.old.on ≡ false → progress.new ≡ progress.old }
 {
     let KeptPlan { named, left_out } = kept;
@@ -282,8 +282,8 @@ fn change_kept<F: TextFiles + WritesFiles, W: io::Write, E: io::Write, P: io::Wr
     progress: &mut Progress<P>,
     console: &mut Console<W, E>,
 ) -> u8
-    ensures ends { ChangesKept W.contents E.contents F.TextFiles F.WritesFiles kept.named.plan steps
-        words.now files.old files.new console.old console.new result }
+    ensures ends { ChangesKept W.contents E.contents F.TextFiles F.WritesFiles kept.named.plan
+        steps words.now files.old files.new console.old console.new result }
     ensures untold { progress.old.on ≡ false → progress.new ≡ progress.old }
 {
     if kept.named.plan.steps.len() == steps {
@@ -304,8 +304,8 @@ fn change_by<F: TextFiles + WritesFiles, W: io::Write, E: io::Write, P: io::Writ
     progress: &mut Progress<P>,
     console: &mut Console<W, E>,
 ) -> u8
-    ensures ends { ChangesBy W.contents E.contents F.TextFiles F.WritesFiles kept.named.plan steps
-        words.now files.old files.new console.old console.new result }
+    ensures ends { ChangesBy W.contents E.contents F.TextFiles F.WritesFiles kept.named.plan
+        steps words.now files.old files.new console.old console.new result }
     ensures untold { progress.old.on ≡ false → progress.new ≡ progress.old }
 {
     if kept.named.plan.steps.len() == 0 {
