@@ -21,7 +21,7 @@ UNIT = 64
 NUMBERS = 64
 FORGOTTEN = 32
 
-# The data of a greeting's requests on IPMB, and their numbers where the requests behind them count from 0 (crates/undo_greeting).
+# The data of a greeting's requests on IPMB, and their numbers where the requests behind them count from 0 (crates/undo_plans).
 GREETING = b"HELO"
 GREETING_NUMBERS = (31, 63)
 

@@ -1,7 +1,6 @@
 """Links of UDP between whoever speaks to a port and a server at another. One that loses, repeats, delays, damages and forges does so by a seed."""
 import collections
 import random
-import select
 import socket
 import threading
 import time
@@ -67,7 +66,7 @@ class Link(threading.Thread):
         """Hears what comes until the next datagram that is held is due, for no longer than this, and lets that go."""
         due = min((it.until for it in self.held), default=time.monotonic() + TURN)
         whences = {back: whence for whence, back in self.backs.items()}
-        for link in select.select([self.front, *whences], [], [], max(0.0, min(longest, due - time.monotonic())))[0]:
+        for link in program.ready_of([self.front, *whences], min(longest, due - time.monotonic())):
             try:
                 data, sender = link.recvfrom(program.MOST_READ)
             except OSError:

@@ -1,6 +1,8 @@
 """What the programs beside this file share with `bmclab` and `bmcnet`: how words are refused, statuses, and ports of this host."""
 import argparse
+import math
 import re
+import select
 import signal
 import socket
 import sys
@@ -13,6 +15,16 @@ NOT_WRITTEN = 6
 LOOPBACK = "127.0.0.1"
 # The most bytes of a datagram that is read: more than any frame or packet has.
 MOST_READ = 2048
+
+
+def ready_of(files, seconds):
+    """Returns those of these sockets and pipes to which something came, or none where nothing does within so many seconds. However many files are
+    open, each may be one of them, which `select` doesn't allow."""
+    numbered = {file.fileno(): file for file in files}
+    poll = select.poll()
+    for number in numbered:
+        poll.register(number, select.POLLIN)
+    return [numbered[number] for number, _ in poll.poll(math.ceil(1000 * max(0.0, seconds)))]
 
 
 class Words(argparse.ArgumentParser):

@@ -1,5 +1,4 @@
 """One requester on IPMB over UDP: its requests are numbered, and each is carried out once, however often it is sent."""
-import select
 import sys
 import time
 
@@ -77,7 +76,7 @@ class Requester:
         frame = self.open[count]
         for _ in range(TRIES):
             until = time.monotonic() + WAIT
-            while select.select([self.link], [], [], max(0, until - time.monotonic()))[0]:
+            while program.ready_of([self.link], until - time.monotonic()):
                 heard = self.hear()
                 if heard:
                     self.is_busy = heard[1][:1] == bytes([frames.BUSY])

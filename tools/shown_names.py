@@ -1,5 +1,5 @@
 """Whether docs/CODES.md has a row for each name and each code that a run shows, and docs/SCHEDULES.md one for each fault of an event, and for no other
-name: they are those of the enums and constants of code. The rows of codes and phases are those of the crate code_words, word for word."""
+name: they are those of the enums and constants of code. The rows of codes and phases are those of the crate report_words, word for word."""
 import os
 import re
 
@@ -13,9 +13,9 @@ IGNORED = {**IGNORED, "pldm_base/src/fault.rt": "PldmFault", "bmc_core/src/out.r
 HOLD = {"Frame", "Packet", "Dropped", "Pldm"}
 PHASES = "model_undo/src/phase.rt"
 CODES = "two_wire/src/code.rt"
-# The file of code_words that has a table, and what its page calls the codes that are none of the rows before.
-CODE_ROWS = {"IPMI": ("code_words/src/ipmi.rt", "others, 80h to BEh"), "PLDM": ("code_words/src/pldm.rt", "others from 80h on")}
-PHASE_ROWS = "code_words/src/phases.rt"
+# The file of report_words that has a table, and what its page calls the codes that are none of the rows before.
+CODE_ROWS = {"IPMI": ("report_words/src/ipmi.rt", "others, 80h to BEh"), "PLDM": ("report_words/src/pldm.rt", "others from 80h on")}
+PHASE_ROWS = "report_words/src/phases.rt"
 OF_COMMAND = "particular to a command"
 
 
@@ -51,7 +51,7 @@ def phase_rows(top):
 
 
 def faults_of_rows(top, rows):
-    """Yields the rows of the page that code_words has otherwise, and those that the page lacks."""
+    """Yields the rows of the page that report_words has otherwise, and those that the page lacks."""
     for kind in CODE_ROWS:
         shown = [" | ".join(row.values()) for row in rows if kind in row]
         yield from differences(PAGE, f"row of {kind}", set(shown), set(code_rows(top, kind)))

@@ -5,7 +5,7 @@ import subprocess
 from trial import compiled, copied_program, literal
 
 TOP = os.path.dirname(os.path.dirname(os.path.realpath(__file__)))
-BELOW = "record_base cfg_records undo_plans text_board plan_file text_schedule text_undo text_journal toml".split()
+BELOW = "record_base cfg_records undo_plans text_board plan_file text_lines text_journal toml".split()
 FORMS = ("board", "plan", "undo", "journal", "schedule")
 
 STEPS = 40

@@ -8,7 +8,7 @@ NAMES = {
     "recvfrom": ["__interceptor_recvfrom"],
     "sendto": ["__interceptor_sendto"],
     # The history gains it under the lock, so it shows that the frames below a call are seen. The seat's list gains it behind the lock.
-    "an entry is filled": ["bmc_history::entries::Events::gain"],
+    "an entry is filled": ["bmc_shared::entries::Events::gain"],
 }
 HOLDS_LOCK = "shared::Locked::"
 counts = {}

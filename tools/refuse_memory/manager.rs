@@ -8,8 +8,7 @@ use lab_run::lab_names;
 use plan_file::read_plan;
 use std::alloc::{AllocError, Global};
 use std::io::Print;
-use text_schedule::read_schedule;
-use text_undo::read_undo;
+use text_lines::{read_schedule, read_undo};
 use undo_core::{Manager, OpenFault, ResumeFault, Sent};
 use undo_plans::{Plan, UndoList};
 

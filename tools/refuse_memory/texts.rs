@@ -11,8 +11,7 @@ use std::alloc::{AllocError, Global};
 use std::io::{self, Print};
 use text_board::read_board;
 use app_serve::read_readings;
-use text_schedule::read_schedule;
-use text_undo::{read_undo, write_undo};
+use text_lines::{read_schedule, read_undo, write_undo};
 use two_wire::Bus;
 
 /// The undo text of two steps on one sensor, both of which were taken.

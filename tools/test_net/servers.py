@@ -2,13 +2,13 @@
 import os
 import random
 import re
-import select
 import socket
 import subprocess
 import threading
 import time
 
 import frames
+from program import ready_of
 
 TOP = os.path.dirname(os.path.dirname(os.path.dirname(os.path.realpath(__file__))))
 BOARD = f"{TOP}/sample.toml"
@@ -118,9 +118,9 @@ class Server:
 
     def first_line(self):
         """Returns the first line on standard error, or what there is of it once that ends or has stayed quiet for too long. Nothing behind it is read."""
-        line, until, errors = b"", time.monotonic() + START, self.process.stderr.fileno()
-        while not line.endswith(b"\n") and select.select([errors], [], [], max(0, until - time.monotonic()))[0]:
-            byte = os.read(errors, 1)
+        line, until, errors = b"", time.monotonic() + START, self.process.stderr
+        while not line.endswith(b"\n") and ready_of([errors], until - time.monotonic()):
+            byte = os.read(errors.fileno(), 1)
             if not byte:
                 break
             line += byte

@@ -5,8 +5,7 @@ use std::io::{self, Print};
 use std::time::{Clock, Instant};
 use text_board::{FileFault, read_board};
 use text_journal::{JournalTextFault, read_journal};
-use text_schedule::{ScheduleFault, read_schedule};
-use text_undo::{UndoFault, read_undo};
+use text_lines::{ScheduleFault, UndoFault, read_schedule, read_undo};
 
 /// Why nothing is told.
 #[derive(Clone, Copy, Debug, PartialEq, Eq)]

@@ -3,7 +3,7 @@ use Rattle.std.specs.Prelude.{String, ◌≡◌, ◌⊎◌, ℕ, List, Bool, tru
 use Rattle.std.specs.declared.alloc.Global.{Global}
 use Rattle.undo_plans.specs.declared.plan.Plan.{Plan}
 use Rattle.undo_plans.specs.declared.undo_list.UndoList.{UndoList}
-use Rattle.text_undo.specs.UndoText.{text_of}
+use Rattle.text_lines.specs.UndoText.{text_of}
 use Rattle.model_undo.specs.declared.call.Call.TheVariants.{Start, Again}
 use Rattle.model_undo.specs.declared.phase.Phase.{Phase}
 use Rattle.model_lab.specs.Meaning.{lab_names}

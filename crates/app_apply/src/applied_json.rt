@@ -6,15 +6,14 @@ use crate::objects::{name_of, object_line};
 use crate::outcome::Outcome;
 use crate::sentences::{bus_of_op, push_record, push_revert};
 use app_journal::Standing;
-use code_words::code_row;
 use record_base::RecordKind;
 use record_kinds::Limits;
+use report_words::{Names, code_row};
 use serde::Serialize;
 use std::alloc::{AllocError, Global};
-use table_names::Names;
 use two_wire::Code;
 use undo_core::{Manager, Phase, Why};
-use undo_journal::{KeptStage, KeptTask};
+use undo_plans::{KeptStage, KeptTask};
 
 /// Where a plan halted, or which request of it has no answer. A member of which there is nothing to say is left out.
 #[derive(Drop, Serialize)]

@@ -20,10 +20,10 @@ use app_run::{
     revive_last, steps_use,
 };
 use bmc_ports::KeptBack;
+use report_words::Names;
 use std::alloc::{AllocError, Global};
 use std::io;
 use std::net::Net;
-use table_names::Names;
 use two_wire::Bus;
 use undo_core::{Manager, Phase};
 use undo_plans::Plan;

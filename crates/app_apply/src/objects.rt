@@ -1,8 +1,8 @@
 //! What is said with `--json`: one object in a line.
 use record_base::Key;
+use report_words::Names;
 use serde::Serialize;
 use std::alloc::{AllocError, Global};
-use table_names::Names;
 
 /// Why a call is refused.
 #[derive(Drop, Serialize)]

@@ -1,14 +1,14 @@
 //! What `bmcnet apply` and `bmcnet revert` say alike: a code of a reply, a record, a request without an answer, and what to call next.
 use crate::kept_calls::Reach;
 use app_run::Unanswered;
-use code_words::code_row;
 use record_base::{Asked, Op, RecordKind};
 use record_kinds::Limits;
 use record_words::{RecordName, undo_in_words};
+use report_words::code_row;
 use std::alloc::{AllocError, Global};
 use two_wire::{Bus, Code};
 use undo_core::Manager;
-use undo_journal::{KeptStage, KeptTask};
+use undo_plans::{KeptStage, KeptTask};
 
 /// Adds a code of a reply on this bus, as `(CCh, invalid data field)`.
 pub fn push_code(text: &mut String, bus: Bus, code: Code) -> Result<(), AllocError> {

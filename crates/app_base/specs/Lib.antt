@@ -7,3 +7,5 @@ pub mod Line
 pub mod Asked
 pub mod Numbers
 pub mod Version
+pub mod Statuses
+pub mod Refusals

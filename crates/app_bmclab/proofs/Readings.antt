@@ -5,7 +5,7 @@ use Rattle.clap.specs.declared.parser.matches.ArgMatches.{ArgMatches}
 use Rattle.two_wire.specs.declared.Bus.{Bus}
 use Rattle.record_base.specs.declared.message.Asked.{Asked}
 use Rattle.bmc_lab.specs.Asked.{AsksForBytes}
-use Rattle.app_ask.specs.Request.{AsksForRequest}
+use Rattle.bmc_lab.specs.Request.{AsksForRequest}
 use Rattle.app_base.specs.declared.status.Status.{Status}
 use Rattle.app_base.specs.declared.status.Status.TheVariants.{RefusedWords, Memory}
 use Rattle.app_play.specs.declared.run.Shown.{Shown}

@@ -10,10 +10,10 @@ use Rattle.text_board.specs.declared.fault.FileFault.{FileFault}
 use Rattle.text_board.specs.Holds.{ReadsText}
 use Rattle.plan_file.specs.declared.plan_fault.PlanFault.{PlanFault}
 use Rattle.plan_file.specs.PlanHolds.{ReadsPlan}
-use Rattle.app_ask.specs.declared.finding.Finding.{Finding}
-use Rattle.app_ask.specs.declared.finding.Finding.TheVariants.{GetRefused, NotRestorable, Refused as SetRefused, Done}
-use Rattle.app_ask.specs.Tries.{MeetsInTurn}
-use Rattle.app_ask.specs.FindingWords.{finding_lines}
+use Rattle.bmc_lab.specs.declared.finding.Finding.{Finding}
+use Rattle.bmc_lab.specs.declared.finding.Finding.TheVariants.{GetRefused, NotRestorable, Refused as SetRefused, Done}
+use Rattle.bmc_lab.specs.Tries.{MeetsInTurn}
+use Rattle.bmc_lab.specs.FindingWords.{finding_lines}
 use Rattle.text_check.specs.declared.outcome.Outcome.{Outcome}
 use Rattle.text_check.specs.declared.outcome.Outcome.TheVariants.{Fine, Told, Refused}
 use Rattle.text_check.specs.Known.{is_told_plan}

@@ -1,7 +1,7 @@
 -- What the words behind `ask` ask for.
 use Rattle.std.specs.Prelude.{◌≡◌, List, Some, codes, option_map, string_bytes}
 use Rattle.clap.specs.Words.{Row, Text, all_of, first_of}
-use Rattle.app_ask.specs.Request.{AsksForRequest}
+use Rattle.bmc_lab.specs.Request.{AsksForRequest}
 use Rattle.app_bmclab.specs.declared.ask_words.AskWords.{AskWords}
 
 -- what was matched behind `ask` asks for this

@@ -4,8 +4,8 @@ use Rattle.std.specs.Option.{is_none, unwrap_or}
 use Rattle.clap.specs.Words.{Row, Text, first_of}
 use Rattle.app_base.specs.Asked.{is_given}
 use Rattle.app_base.specs.Numbers.{NamesBelow}
-use Rattle.lab_schedule.specs.declared.make.Links.{Links}
-use Rattle.lab_schedule.specs.declared.make.Links.TheVariants.{Clean, Drawn}
+use Rattle.lab_play.specs.declared.schedule_making.Links.{Links}
+use Rattle.lab_play.specs.declared.schedule_making.Links.TheVariants.{Clean, Drawn}
 use Rattle.app_bmclab.specs.declared.schedule_words.Options.{Options}
 use Rattle.app_bmclab.specs.declared.schedule_words.ScheduleWords.{ScheduleWords}
 

@@ -10,7 +10,7 @@ use Rattle.app_base.specs.Version.{SaysVersion}
 use Rattle.bmc_lab.specs.Files.{SaysOfFile}
 use Rattle.app_play.specs.Strict.{PrintsAskedOfFiles}
 use Rattle.app_bmclab.specs.ScheduledFiles.{PrintsScheduleOfFiles as SaysOfScheduled}
-use Rattle.app_ask.specs.Files.{SaysOfAsk, SaysOfExplained}
+use Rattle.bmc_lab.specs.AskFiles.{SaysOfAsk, SaysOfExplained}
 use Rattle.app_bmclab.specs.declared.check_words.CheckWay.{CheckWay}
 use Rattle.app_bmclab.specs.declared.check_words.CheckWay.TheVariants.{Alone, Against}
 use Rattle.app_bmclab.specs.declared.words.Words.{Words}

@@ -4,7 +4,7 @@ use Rattle.app_base.specs.declared.files.UnreadFile.{UnreadFile}
 use Rattle.app_base.specs.Ending.{Saying}
 use Rattle.app_base.specs.Files.{Readings, FilesGive, FirstUnread, PrintsRefusal}
 use Rattle.app_play.specs.Run.{PrintsPlay}
-use Rattle.lab_schedule.specs.declared.make.ScheduleOptions.{ScheduleOptions}
+use Rattle.lab_play.specs.declared.schedule_making.ScheduleOptions.{ScheduleOptions}
 use Rattle.app_bmclab.specs.declared.schedule_files.ScheduleFiles.{ScheduleFiles}
 use Rattle.app_bmclab.specs.Writes.{WritesSchedule}
 

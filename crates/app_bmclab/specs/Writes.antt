@@ -1,10 +1,10 @@
 -- The text of a schedule that is made of a plan on a board.
 use Rattle.std.specs.Prelude.{◌≡◌, ℕ, List, Ok}
-use Rattle.text_schedule.specs.declared.event.Event.{Event}
-use Rattle.text_schedule.specs.Schedule.{TextIsRead}
-use Rattle.text_schedule.specs.Written.{text_of}
-use Rattle.lab_schedule.specs.declared.make.ScheduleOptions.{ScheduleOptions}
-use Rattle.lab_schedule.specs.Made.{IsMade}
+use Rattle.text_lines.specs.declared.event.Event.{Event}
+use Rattle.text_lines.specs.Schedule.{TextIsRead}
+use Rattle.text_lines.specs.Written.{text_of}
+use Rattle.lab_play.specs.declared.schedule_making.ScheduleOptions.{ScheduleOptions}
+use Rattle.lab_play.specs.Made.{IsMade}
 use Rattle.app_base.specs.declared.status.Status.{Status}
 use Rattle.app_base.specs.declared.status.Status.TheVariants.{Success}
 use Rattle.app_play.specs.declared.inputs.Inputs.{Inputs}

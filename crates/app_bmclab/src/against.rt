@@ -8,8 +8,8 @@ ghost use Rattle.app_bmclab.specs.Checks.{status_of};
 ghost use Rattle.app_bmclab.specs.Against.{EndsAgainst, FileAgainst, OnBoardOf, PlanAgainst, SaysOfAgainst, TellsEach, TextAgainst, goes, outcome_with};
 
 use crate::check::{Cause, TellsCause, cause_words, shown_name, status_of, tell_looks};
-use app_ask::{Finding, push_findings, try_steps};
 use app_base::{Console, Ending, Report, Status, Stream, TextFiles, UnreadFile};
+use bmc_lab::{Finding, push_findings, try_steps};
 use cfg_records::BoardFile;
 use file_faults::{Sheet, Source};
 use plan_file::{PlanFault, read_plan};

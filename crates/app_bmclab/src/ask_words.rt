@@ -6,8 +6,8 @@ ghost use Rattle.app_base.specs.Asked.{RefusesWords};
 ghost use Rattle.app_bmclab.specs.Line.{ask_app};
 ghost use Rattle.app_bmclab.specs.AskedOf.{AsksAsk};
 
-use app_ask::asked_request;
 use app_base::{Argument, Refusal, Status, all_named, given, new_command, refusal_by, word_of};
+use bmc_lab::asked_request;
 use clap::error::ErrorKind;
 use clap::{ArgMatches, Command};
 use record_base::Asked;

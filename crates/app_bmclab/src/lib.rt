@@ -23,7 +23,7 @@ pub use check::{Cause, TellsCause, check_files};
 pub use check_words::{CheckWay, CheckWords};
 pub use explained::explained_play_of_files;
 pub use file::ToldFiles;
-pub use lab_schedule::{Chances, Links, Percent, ScheduleOptions};
+pub use lab_play::{Chances, Links, Percent, ScheduleOptions};
 pub use notes::{Notes, notes_on};
 pub use run::run_line;
 pub use schedule_files::{ScheduleFiles, schedule_of_files};

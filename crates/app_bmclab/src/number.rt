@@ -4,7 +4,7 @@ ghost use Rattle.std.specs.Option.{SomeIff};
 ghost use Rattle.std.specs.Str.Parse.{IsNumeral, digits_value};
 
 use app_base::has_plus;
-use lab_schedule::Percent;
+use lab_play::Percent;
 
 /// The number behind the most of a hundred.
 pub const PERCENT_END: u64 = 101;

@@ -12,10 +12,9 @@ use crate::notes::Notes;
 use crate::schedule_files::{ScheduleFiles, schedule_of_files};
 use crate::schedule_words::ScheduleWords;
 use crate::words::{FrameWords, PlayWords, Words, read};
-use app_ask::{answer_of_file, explained_of_file};
 use app_base::{Console, TextFiles, refuse, tell_version};
 use app_play::PlayFiles;
-use bmc_lab::frame_of_file;
+use bmc_lab::{answer_of_file, explained_of_file, frame_of_file};
 use std::alloc::Global;
 use std::io;
 

@@ -7,7 +7,7 @@ ghost use Rattle.app_bmclab.specs.ScheduledFiles.{words_of, ArePlanTexts, Prints
 use crate::schedule_text::schedule_run;
 use app_base::files::refuse;
 use app_base::{Console, ReadFault, TextFiles, text_of};
-use lab_schedule::ScheduleOptions;
+use lab_play::ScheduleOptions;
 use std::alloc::Global;
 use std::io;
 

@@ -8,10 +8,10 @@ ghost use Rattle.app_bmclab.specs.Writes.{WritesSchedule};
 use crate::explained::{note_of_schedule, write_notes};
 use app_base::{Console, Ending, Report, Status};
 use app_play::{Inputs, is_memory, read_inputs, refusal_report};
-use lab_schedule::{ScheduleOptions, make_schedule};
+use lab_play::{ScheduleOptions, make_schedule};
 use std::alloc::{AllocError, Global};
 use std::io;
-use text_schedule::write_schedule;
+use text_lines::write_schedule;
 
 /// The schedule of the plan on the board, written.
 fn written_report(

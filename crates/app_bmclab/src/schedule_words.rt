@@ -11,7 +11,7 @@ use crate::number::{DELAY_END, PERCENT_END, number_of, percent_of};
 use app_base::{Argument, Refusal, has_flag, named, new_command, refusal_by, word_of};
 use clap::error::ErrorKind;
 use clap::{ArgMatches, Command};
-use lab_schedule::{Chances, Links, Percent, ScheduleOptions};
+use lab_play::{Chances, Links, Percent, ScheduleOptions};
 use std::alloc::{AllocError, Global};
 
 /// What the words of `bmclab schedule` ask for.

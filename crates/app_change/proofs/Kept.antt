@@ -3,7 +3,7 @@ use Rattle.std.proofs.Common.{◌≡◌, List, sym, subst}
 use Rattle.record_base.specs.declared.op.Op.{Op}
 use Rattle.undo_plans.specs.declared.plan.Plan.{Plan}
 use Rattle.app_look.specs.declared.session.Way.{Way}
-use Rattle.app_preview.specs.Runs.{Carries}
+use Rattle.app_change.specs.PreviewRuns.{Carries}
 use Rattle.app_change.specs.KeepLook.{KeptByLook}
 use Rattle.app_change.proofs.KeptSteps.{kept_lead_alike}
 use Rattle.app_change.specs.Looks.{KeepsChanges}

@@ -11,15 +11,15 @@ use Rattle.record_base.specs.Keys.{same_key}
 use Rattle.record_base.specs.KeyLaws.{exact_key}
 use Rattle.record_kinds.specs.declared.limits.Limits.{Limits}
 use Rattle.record_kinds.specs.Limits.{inverse, key_of, sets, valid, view}
-use Rattle.shown_after.specs.After.{after_of}
-use Rattle.shown_after.specs.declared.meaning.Meaning.TheVariants.{Same}
-use Rattle.shown_after.specs.Meaning.{Means}
-use Rattle.shown_after.proofs.BoardsForeseen.{stays_same}
+use Rattle.shown_records.specs.After.{after_of}
+use Rattle.shown_records.specs.declared.meaning.Meaning.TheVariants.{Same}
+use Rattle.shown_records.specs.Meaning.{Means}
+use Rattle.shown_records.proofs.BoardsForeseen.{stays_same}
 use Rattle.app_look.specs.declared.records.Came.{Came}
 use Rattle.app_look.specs.declared.records.Came.TheVariants as came
 use Rattle.app_look.specs.declared.records.Found.{Found}
-use Rattle.app_preview.specs.Foreseeing.{can_go}
-use Rattle.app_preview.specs.Runs.{Carries, SetsOrLeaves}
+use Rattle.app_change.specs.Foreseeing.{can_go}
+use Rattle.app_change.specs.PreviewRuns.{Carries, SetsOrLeaves}
 use Rattle.app_change.specs.Kept.{changes, have_record, kept_behind, leaves, with_step}
 use Rattle.app_change.specs.Runs.{AreFoundAt, IsFoundAt, KeptLeadAlike}
 use Rattle.app_change.proofs.OneMore.{record_more}

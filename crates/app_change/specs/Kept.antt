@@ -7,7 +7,7 @@ use Rattle.record_base.specs.declared.key.Key.{Key}
 use Rattle.record_base.specs.declared.op.Op.{Op}
 use Rattle.record_base.specs.Keys.{same_key}
 use Rattle.record_kinds.specs.Limits.{inverse, key_of}
-use Rattle.shown_after.specs.After.{after_of}
+use Rattle.shown_records.specs.After.{after_of}
 use Rattle.app_look.specs.declared.records.Came.{Came}
 use Rattle.app_look.specs.declared.records.Came.TheVariants as came
 use Rattle.app_look.specs.declared.records.Found.{Found}

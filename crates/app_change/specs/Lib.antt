@@ -1,3 +1,7 @@
+pub mod Foreseeing
+pub mod PreviewRuns
+pub mod Outlooks
+pub mod Preview
 pub mod Kept
 pub mod Runs
 pub mod KeepLook

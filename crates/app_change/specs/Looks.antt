@@ -17,7 +17,7 @@ use Rattle.app_look.specs.declared.session.OpenFault.TheVariants as open_fault
 use Rattle.app_look.specs.declared.session.Way.{Way}
 use Rattle.app_look.specs.Reading.{FindsAndNames}
 use Rattle.app_apply.specs.declared.kept_calls.Reach.{Reach}
-use Rattle.app_preview.specs.Runs.{Carries}
+use Rattle.app_change.specs.PreviewRuns.{Carries}
 use Rattle.app_change.specs.Kept.{kept_of}
 use Rattle.app_change.specs.KeepLook.{records_of}
 use Rattle.app_change.specs.Runs.{AreFoundAt}

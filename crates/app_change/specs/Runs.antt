@@ -9,7 +9,7 @@ use Rattle.record_kinds.specs.Limits.{key_of, valid, view}
 use Rattle.app_look.specs.declared.records.Came.{Came}
 use Rattle.app_look.specs.declared.records.Came.TheVariants as came
 use Rattle.app_look.specs.declared.records.Found.{Found}
-use Rattle.app_preview.specs.Runs.{Carries}
+use Rattle.app_change.specs.PreviewRuns.{Carries}
 use Rattle.app_change.specs.Kept.{kept_of}
 
 -- what was found is what the Get of a record of this value shows, whatever the activity was, or that its Get was refused

@@ -25,10 +25,10 @@ use app_journal::WritesFiles;
 use app_look::LookFault;
 use app_revert::{RevertWords, revert};
 use app_run::Progress;
+use report_words::Names;
 use std::alloc::{AllocError, Global};
 use std::io;
 use std::net::Net;
-use table_names::Names;
 use undo_core::Phase;
 use undo_plans::Plan;
 

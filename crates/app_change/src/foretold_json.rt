@@ -5,8 +5,7 @@ use record_words::undo_in_words;
 use serde::Serialize;
 use std::alloc::{AllocError, Global};
 use undo_core::Manager;
-use undo_journal::{KeptStage, KeptTask};
-use undo_plans::UndoRequest;
+use undo_plans::{KeptStage, KeptTask, UndoRequest};
 
 /// The request that has no answer, so that it isn't known whether it was carried out.
 #[derive(Drop, Serialize)]

@@ -3,8 +3,7 @@ use app_apply::sentences::push_open;
 use record_words::undo_in_words;
 use std::alloc::{AllocError, Global};
 use undo_core::Manager;
-use undo_journal::{KeptStage, KeptTask};
-use undo_plans::UndoRequest;
+use undo_plans::{KeptStage, KeptTask, UndoRequest};
 
 /// How many requests of the manager's list are still to be sent, from the first on. The last of them is the one that is sent first.
 pub(crate) fn left_of(manager: &Manager) -> usize {

@@ -9,9 +9,9 @@ use crate::keeping::{Narrowed, kept_steps};
 use app_look::{LookFault, NamedRecords, OpenFault, Way, look_and_name};
 use record_base::{Key, RecordKind};
 use record_kinds::Limits;
+use report_words::Names;
 use std::alloc::{AllocError, Global};
 use std::net::Net;
-use table_names::Names;
 use undo_plans::Steps;
 
 /// The steps that a look keeps, and the names of sensors and attributes that it told.

@@ -9,7 +9,7 @@ ghost use Rattle.app_change.specs.Kept.{changes, have_record, kept_of, leaves, w
 use app_look::{Came, Found};
 use record_base::{Key, Op, RecordKind};
 use record_kinds::Limits;
-use shown_after::shown_after;
+use shown_records::shown_after;
 use std::alloc::{AllocError, Global};
 use undo_plans::Steps;
 

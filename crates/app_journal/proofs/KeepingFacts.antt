@@ -4,9 +4,9 @@ use Rattle.std.specs.Prelude.{not, IfOk, IsSome, Result}
 use Rattle.record_base.specs.declared.op.Op.{Op}
 use Rattle.undo_plans.specs.Requests.{RequestList}
 use Rattle.undo_plans.specs.declared.names.Names.{Names}
-use Rattle.undo_journal.specs.declared.stage.KeptStage.TheVariants.{Open}
-use Rattle.undo_journal.specs.declared.stage.KeptTask.TheVariants.{Get, Set, Undo}
-use Rattle.undo_journal.specs.Kept.{waiting_at}
+use Rattle.undo_plans.specs.declared.kept_stage.KeptStage.TheVariants.{Open}
+use Rattle.undo_plans.specs.declared.kept_stage.KeptTask.TheVariants.{Get, Set, Undo}
+use Rattle.undo_plans.specs.KeptManager.{waiting_at}
 use Rattle.model_undo.specs.Machine as machine
 use Rattle.undo_core.specs.declared.manager.Manager.{Manager}
 use Rattle.undo_core.specs.declared.stage.Task.TheVariants.{Gets, Sets, Undoes}

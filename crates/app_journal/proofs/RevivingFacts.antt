@@ -1,7 +1,7 @@
 -- What is so of a text of which a manager is made again.
 use Rattle.std.proofs.Common.{◌≡◌, ◌∙◌, ◌<◌, ◌⊎◌, ℕ, List, inl, inr, refl, subst, ap}
 use Rattle.two_wire.specs.Retries.{most_retries}
-use Rattle.undo_journal.specs.Kept.{Kept}
+use Rattle.undo_plans.specs.KeptManager.{Kept}
 use Rattle.text_journal.specs.JournalText.{IsTextOf}
 use Rattle.text_journal.proofs.JournalLaws.{apart, one_journal_of}
 use Rattle.model_lab.specs.Meaning.{lab_names}

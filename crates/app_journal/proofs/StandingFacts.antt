@@ -2,7 +2,7 @@
 use Rattle.std.specs.Prelude.{not}
 use Rattle.std.proofs.Common.{◌≡◌, ℕ, List, Bool, true, false, inl, inr, subst}
 use Rattle.undo_plans.specs.declared.undo_list.UndoList.{UndoList}
-use Rattle.text_undo.specs.UndoText.{text_of}
+use Rattle.text_lines.specs.UndoText.{text_of}
 use Rattle.undo_core.specs.declared.manager.Manager.{Manager}
 use Rattle.undo_core.specs.Journals.{kept_by}
 use Rattle.app_journal.specs.declared.standing.Standing.{Standing}

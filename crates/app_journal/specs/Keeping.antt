@@ -1,9 +1,9 @@
 -- How the journal of a manager is kept in its file.
 use Rattle.std.specs.Prelude.{◌≡◌, ◌≢◌, ◌⊎◌, ℕ, List, [], ◌∷◌, Bool, true, false, not, Result, Ok, Err, IsSome, None}
 use Rattle.undo_plans.specs.declared.names.Names.{Names}
-use Rattle.undo_journal.specs.declared.stage.KeptStage.{KeptStage}
-use Rattle.undo_journal.specs.declared.stage.KeptStage.TheVariants.{Open}
-use Rattle.undo_journal.specs.declared.stage.KeptTask.TheVariants.{Set}
+use Rattle.undo_plans.specs.declared.kept_stage.KeptStage.{KeptStage}
+use Rattle.undo_plans.specs.declared.kept_stage.KeptStage.TheVariants.{Open}
+use Rattle.undo_plans.specs.declared.kept_stage.KeptTask.TheVariants.{Set}
 use Rattle.text_journal.specs.JournalText.{IsTextOf}
 use Rattle.text_journal.specs.Written.{text_of}
 use Rattle.model_undo.specs.Machine as machine

@@ -1,7 +1,7 @@
 -- A manager that is made again of the text of a journal.
 use Rattle.std.specs.Prelude.{◌≡◌, ◌<◌, ◌⊎◌, ℕ, List, Some}
 use Rattle.two_wire.specs.Retries.{most_retries}
-use Rattle.undo_journal.specs.Kept.{Kept}
+use Rattle.undo_plans.specs.KeptManager.{Kept}
 use Rattle.text_journal.specs.JournalText.{IsTextOf, IsFirstBad}
 use Rattle.model_lab.specs.Meaning.{lab_names}
 use Rattle.undo_core.specs.declared.manager.Manager.{Manager}

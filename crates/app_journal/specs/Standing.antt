@@ -2,13 +2,13 @@
 use Rattle.std.specs.Prelude.{◌≡◌, ◌≢◌, ◌⊎◌, ℕ, List, [], ◌∷◌, Bool, true, false}
 use Rattle.record_base.specs.declared.message.Asked.{Asked}
 use Rattle.undo_plans.specs.declared.undo_list.UndoList.{UndoList}
-use Rattle.undo_journal.specs.declared.stage.KeptTask.TheVariants.{Set, Undo}
-use Rattle.undo_journal.specs.declared.stage.KeptStage.{KeptStage}
-use Rattle.undo_journal.specs.declared.stage.KeptStage.TheVariants.{Open, Done, Halted, Undone}
-use Rattle.undo_journal.specs.Kept.{Kept}
+use Rattle.undo_plans.specs.declared.kept_stage.KeptTask.TheVariants.{Set, Undo}
+use Rattle.undo_plans.specs.declared.kept_stage.KeptStage.{KeptStage}
+use Rattle.undo_plans.specs.declared.kept_stage.KeptStage.TheVariants.{Open, Done, Halted, Undone}
+use Rattle.undo_plans.specs.KeptManager.{Kept}
 use Rattle.text_journal.specs.JournalText as journal
-use Rattle.text_undo.specs.UndoText as undo
-use Rattle.text_undo.specs.UndoText.{text_of}
+use Rattle.text_lines.specs.UndoText as undo
+use Rattle.text_lines.specs.UndoText.{text_of}
 use Rattle.undo_core.specs.declared.manager.Manager.{Manager}
 use Rattle.undo_core.specs.Journals.{kept_by}
 use Rattle.app_journal.specs.declared.reviving.ReviveFault.{ReviveFault}

@@ -9,7 +9,7 @@ use std::alloc::{AllocError, Global};
 use std::mem::swap;
 use text_journal::{journal_growth, write_journal, write_journal_into};
 use undo_core::Manager;
-use undo_journal::{JournalView, KeptStage};
+use undo_plans::{JournalView, KeptStage};
 
 /// The text that the file of a manager's journal has, and a string where the next one is written. Both have room for each text that the
 /// manager's journal comes to have.

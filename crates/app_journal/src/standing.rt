@@ -1,6 +1,6 @@
 //! What a text says that there is to take back.
 ghost use Rattle.std.specs.Prelude.{◌≡◌, IfOk};
-ghost use Rattle.undo_journal.specs.Journals.{kept_in};
+ghost use Rattle.undo_plans.specs.Journals.{kept_in};
 ghost use Rattle.undo_core.specs.Journals.{kept_by};
 ghost use Rattle.app_journal.specs.Standing.{IsFinishedAs, IsListStanding, IsSameAs, IsStanding};
 ghost use Rattle.app_journal.specs.Standing.{StandsBeside, is_over_at, stands_with, standing_of};
@@ -8,9 +8,9 @@ ghost use Rattle.app_journal.specs.Standing.{StandsBeside, is_over_at, stands_wi
 use crate::reviving::{ReviveFault, revive_text};
 use std::alloc::{AllocError, Global};
 use text_journal::{JournalTextFault, read_journal};
-use text_undo::{UndoFault, read_undo, write_undo};
+use text_lines::{UndoFault, read_undo, write_undo};
 use undo_core::Manager;
-use undo_journal::{Journal, KeptStage, KeptTask};
+use undo_plans::{Journal, KeptStage, KeptTask};
 
 /// What a file beside that of an undo text has.
 #[derive(Clone, Copy, Debug, PartialEq, Eq)]

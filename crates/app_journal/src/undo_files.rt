@@ -1,11 +1,11 @@
 //! The file that gets an undo text, and the files beside it.
 ghost use Rattle.std.specs.Prelude.{◌≡◌, IfOk, OnErr, string_bytes};
-ghost use Rattle.text_undo.specs.UndoText.{text_of};
+ghost use Rattle.text_lines.specs.UndoText.{text_of};
 ghost use Rattle.app_journal.specs.Beside.{GivesUndo, IsBeside, IsLock, IsOwn, IsStem, IsStream, PutsPart, RemovesPart};
 
 use crate::files::{HoldFault, WriteFault, WritesFiles};
 use std::alloc::{AllocError, Global};
-use text_undo::write_undo;
+use text_lines::write_undo;
 use undo_plans::UndoList;
 
 /// The words that name the file of an undo text and those beside it.

@@ -8,11 +8,11 @@ use Rattle.undo_look.specs.declared.stage.Stage.{Stage}
 use Rattle.undo_look.specs.declared.stage.Stage.TheVariants as stage
 use Rattle.undo_look.specs.declared.target.Target.TheVariants.{Record}
 use Rattle.undo_look.specs.Looks.{IsSeen}
-use Rattle.look_links.specs.declared.driver.LookEnd.{LookEnd}
-use Rattle.look_links.specs.declared.driver.LookEnd.TheVariants.{Silent}
+use Rattle.app_look.specs.declared.look_driver.LookEnd.{LookEnd}
+use Rattle.app_look.specs.declared.look_driver.LookEnd.TheVariants.{Silent}
 use Rattle.app_look.specs.declared.records.Found.{Found}
 use Rattle.app_look.specs.declared.session.Session.{Session}
-use Rattle.look_links.specs.Driven.{end_at}
+use Rattle.app_look.specs.Driven.{end_at}
 use Rattle.app_look.specs.Looking.{CallsAgain, CallsOnce, LooksAt, begins}
 use Rattle.app_look.specs.declared.session.Way.{Way}
 use Rattle.app_look.specs.Opened.{IsOpened}

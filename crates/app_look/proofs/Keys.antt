@@ -17,9 +17,9 @@ use Rattle.undo_look.specs.declared.target.Target.{Target}
 use Rattle.undo_look.specs.Requests.{bus_of, next_behind}
 use Rattle.undo_look.specs.Replies.{stage_with}
 use Rattle.undo_look.specs.Looks.{HearsFrame, IsStepResult, LookState, StepResult, again_at, asks, awaited_on, awaited_reply, begin_at, enters, goes_on, heeded_in, is_awaited, joins, open_on, quiet_at, rests, state_of, takes_at, takes_told}
-use Rattle.look_links.specs.declared.driver.LookEnd.{LookEnd}
-use Rattle.look_links.specs.Driven.{DrivenOn, Hears, LeadsBy, LeadsByAll, LookCall, LookMoment, Next, Send, Looking, moment, or_rests, quieted_at, state}
-use Rattle.look_links.specs.declared.driver.LookEnd.TheVariants.{Silent}
+use Rattle.app_look.specs.declared.look_driver.LookEnd.{LookEnd}
+use Rattle.app_look.specs.Driven.{DrivenOn, Hears, LeadsBy, LeadsByAll, LookCall, LookMoment, Next, Send, Looking, moment, or_rests, quieted_at, state}
+use Rattle.app_look.specs.declared.look_driver.LookEnd.TheVariants.{Silent}
 use Rattle.wire_links.specs.contracts.udp_link.UdpLinkLink.TheImpl as udp
 use Rattle.app_look.specs.declared.session.Session.{Session}
 use Rattle.app_look.specs.Opened.{most_turns}

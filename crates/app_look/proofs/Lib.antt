@@ -1,3 +1,5 @@
+pub mod LinkBuses
+pub mod Looking
 pub mod Keys
 pub mod Findings
 pub mod Asks

@@ -8,7 +8,7 @@ use Rattle.undo_look.specs.declared.looker.Seen.{Seen}
 use Rattle.undo_look.specs.declared.looker.Seen.TheVariants as seen
 use Rattle.undo_look.specs.Looks.{IsSeen}
 use Rattle.undo_look.specs.declared.target.TablePart.{TablePart}
-use Rattle.look_links.specs.declared.driver.LookEnd.{LookEnd}
+use Rattle.app_look.specs.declared.look_driver.LookEnd.{LookEnd}
 use Rattle.app_look.specs.declared.session.Session.{Session}
 use Rattle.app_look.specs.Looking.{AsksFor}
 use Rattle.app_look.specs.declared.asking.Told.{Told}
@@ -46,8 +46,8 @@ TellsSeen None told.Silent = Unit {0}
 TellsSeen _ _ = ⊥
 
 -- this is told of the session's last look
-abbrev pub IsTold : Session → Told → Type 0
-IsTold session told = (came : Option Seen) × IsSeen session.looker.stage session.looker.shown came × TellsSeen came told
+abbrev pub IsToldOf : Session → Told → Type 0
+IsToldOf session told = (came : Option Seen) × IsSeen session.looker.stage session.looker.shown came × TellsSeen came told
 
 -- the number of two bytes, the low byte first
 abbrev pub word_at : List ℕ → ℕ → ℕ

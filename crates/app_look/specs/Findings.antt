@@ -10,8 +10,8 @@ use Rattle.undo_look.specs.declared.stage.Stage.{Stage}
 use Rattle.undo_look.specs.declared.stage.Stage.TheVariants as stage
 use Rattle.undo_look.specs.declared.target.Target.TheVariants.{Record}
 use Rattle.undo_look.specs.Requests.{bus_of}
-use Rattle.look_links.specs.declared.driver.LookEnd.{LookEnd}
-use Rattle.look_links.specs.declared.driver.LookEnd.TheVariants.{Silent}
+use Rattle.app_look.specs.declared.look_driver.LookEnd.{LookEnd}
+use Rattle.app_look.specs.declared.look_driver.LookEnd.TheVariants.{Silent}
 use Rattle.app_run.specs.Buses.{is_used}
 use Rattle.app_look.specs.declared.records.Came.{Came}
 use Rattle.app_look.specs.declared.records.Came.TheVariants as came
@@ -86,14 +86,7 @@ are_used bus keys = is_used bus (map bus_at keys)
 abbrev pub OpensFor : Way → List Key → Session → Type 0
 OpensFor way keys session = IsOpened way (are_used Ipmb keys) (are_used Smbus keys) session
 
--- and each was looked at behind that
-pub record FindsOver (way : Way) (keys : List Key) (found : List Found) : Type 0 where
-  pub session : Session
-  pub opened : OpensFor way keys session
-  pub left : Session
-  pub finds : FindsEach keys found session left
-
--- so, and the session is this then
+-- and each was looked at behind that, and the session is this then
 pub record StaysOver (way : Way) (keys : List Key) (found : List Found) (left : Session) : Type 0 where
   pub session : Session
   pub opened : OpensFor way keys session

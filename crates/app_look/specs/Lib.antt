@@ -1,3 +1,4 @@
+pub mod Driven
 pub mod Opened
 pub mod Looking
 pub mod Findings

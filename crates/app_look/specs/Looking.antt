@@ -8,9 +8,9 @@ use Rattle.undo_look.specs.declared.target.Target.{Target}
 use Rattle.undo_look.specs.declared.target.TablePart.{TablePart}
 use Rattle.undo_look.specs.declared.target.Target.TheVariants.{Record, Table}
 use Rattle.undo_look.specs.Looks.{StepResult, again_at, awaited_on, begin_at, open_on, state_of}
-use Rattle.look_links.specs.declared.driver.LookEnd.{LookEnd}
-use Rattle.look_links.specs.declared.driver.LookEnd.TheVariants.{Silent}
-use Rattle.look_links.specs.Driven.{LooksOver, or_rests}
+use Rattle.app_look.specs.declared.look_driver.LookEnd.{LookEnd}
+use Rattle.app_look.specs.declared.look_driver.LookEnd.TheVariants.{Silent}
+use Rattle.app_look.specs.Driven.{LooksOver, or_rests}
 use Rattle.app_look.specs.declared.session.Session.{Session}
 use Rattle.app_look.specs.Opened.{most_turns}
 

@@ -1,6 +1,6 @@
 //! A request for a part of a table, and what it came to.
 ghost use Rattle.std.specs.Prelude.{◌≡◌, Some, take};
-ghost use Rattle.app_look.specs.Asking.{AsksPart, AsksTables, IsTold, TellsSeen, most_reply};
+ghost use Rattle.app_look.specs.Asking.{AsksPart, AsksTables, IsToldOf, TellsSeen, most_reply};
 
 use crate::session::Session;
 use two_wire::Bytes;
@@ -45,7 +45,7 @@ fn told_of(seen: Seen<'_>) -> Told
 pub(crate) fn ask_once(session: &mut Session, part: &TablePart) -> Told
     ensures asked { AsksPart part.now session.old session.new }
     ensures tables { AsksTables session.old session.new }
-    ensures told { IsTold session.new result }
+    ensures told { IsToldOf session.new result }
 {
     session.ask(part);
     match session.seen() {

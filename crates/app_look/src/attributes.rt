@@ -8,8 +8,8 @@ use bios_attr::bios_attribute::transfer_handle;
 use bios_attr::entry_parts::entry_in;
 use pldm_base::TransferFlag;
 use record_base::byte_at;
+use report_words::Names;
 use std::alloc::{AllocError, Global};
-use table_names::Names;
 use undo_look::{Seen, TablePart};
 
 /// How many parts of a table are read at most.
@@ -27,11 +27,11 @@ pub(crate) enum Behind {
 }
 
 /// What comes behind the part that a reply shows, by its flag and the handle of the next (DSP0247).
-fn behind_part(data: &[u8]) -> Behind
-    ensures { result ≡ behind_part data.now }
+fn behind_part(shown: &[u8]) -> Behind
+    ensures { result ≡ behind_part shown.now }
 {
-    let flag = byte_at(data, 4);
-    let next = transfer_handle(data);
+    let flag = byte_at(shown, 4);
+    let next = transfer_handle(shown);
     if flag == TransferFlag::End.byte() || flag == TransferFlag::StartAndEnd.byte() {
         Behind::Whole
     } else if (flag == TransferFlag::Start.byte() || flag == TransferFlag::Middle.byte())

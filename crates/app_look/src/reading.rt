@@ -9,9 +9,9 @@ use crate::records::{Found, LookFault, Looked, look_and_stay};
 use crate::sensors::read_sensors;
 use crate::session::{Session, Way};
 use record_base::Key;
+use report_words::Names;
 use std::alloc::{AllocError, Global};
 use std::net::Net;
-use table_names::Names;
 
 /// What was found of records, and the names of their sensors and attributes.
 #[derive(Drop)]

@@ -1,7 +1,7 @@
 //! Looks at records, one after another.
 ghost use Rattle.std.specs.Prelude.{IfErr, IfOk};
-ghost use Rattle.look_links.specs.declared.driver.LookEnd.{LookEnd as AnyEnd};
-ghost use Rattle.app_look.specs.Findings.{FailsOver, Finds, FindsEach, FindsOver, IsKeptOf};
+ghost use Rattle.app_look.specs.declared.look_driver.LookEnd.{LookEnd as AnyEnd};
+ghost use Rattle.app_look.specs.Findings.{FailsOver, Finds, FindsEach, IsKeptOf};
 ghost use Rattle.app_look.specs.Findings.{StaysOver, StopsAt};
 ghost use Rattle.app_look.specs.Looking.{LooksAt};
 
@@ -120,25 +120,5 @@ pub fn look_and_stay<R: Net>(
     match look_at_each(alloc, &mut session, keys) {
         Ok(found) => Ok(Looked { found, session }),
         Err(why) => Err(LookFault::Stopped(why)),
-    }
-}
-
-/// Greets a controller on the buses on which the Gets of these records go, and looks at each of them.
-pub fn look_over_udp<R: Net>(
-    rt: &R,
-    alloc: Global,
-    way: &Way,
-    keys: &[Key],
-) -> Result<Vec<Found>, LookFault>
-    ensures found { IfOk result (λ found. FindsOver way.now keys.now found.items) }
-    ensures fault { IfErr result (FailsOver way.now keys.now) }
-{
-    match look_and_stay(rt, alloc, way, keys) {
-        Ok(looked) => {
-            let Looked { found, session } = looked;
-            drop(session);
-            Ok(found)
-        }
-        Err(why) => Err(why),
     }
 }

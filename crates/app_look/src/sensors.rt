@@ -5,7 +5,7 @@ ghost use Rattle.app_look.specs.Asking.{AsksTables, name_count, word_at};
 use crate::asking::{Reply, Told, ask_once};
 use crate::session::Session;
 use record_base::byte_at;
-use table_names::{IdString, Names, SensorHead, id_string, sensor_head};
+use report_words::{IdString, Names, SensorHead, id_string, sensor_head};
 use two_wire::code;
 use undo_look::TablePart;
 

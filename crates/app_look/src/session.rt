@@ -8,8 +8,8 @@ ghost use Rattle.app_look.specs.Opened.{most_turns, number_on};
 ghost use Rattle.app_look.specs.Looking.{AsksFor, CallsOnce, GoesOn, LooksAt, LooksTo, begins};
 ghost use Rattle.app_look.specs.Looking.{sends_again};
 
+use crate::look_driver::{LookEnd, drive_again, drive_look};
 use app_run::{BusLinks, GreetFault, Greetings, Unanswered, greet_first, open_ends};
-use look_links::{LookEnd, drive_again, drive_look};
 use model_lab::lab_names;
 use record_base::Key;
 use std::alloc::{AllocError, Global};

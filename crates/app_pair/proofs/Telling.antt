@@ -16,7 +16,7 @@ use Rattle.app_base.specs.declared.status.Status.TheVariants.{Stopped}
 use Rattle.app_base.specs.declared.ending.ReportFault.{ReportFault}
 use Rattle.app_base.specs.declared.ending.ReportFault.TheVariants as untold
 use Rattle.app_base.specs.Ending.{ReportTells, Saying}
-use Rattle.app_strict.specs.Refusals.{SaysUnless, is_loose}
+use Rattle.app_base.specs.Refusals.{SaysUnless, is_loose}
 use Rattle.app_run.specs.Driven.{DrivenState, DrivesAgain, RunFrom, CallRun, opened_with, fresh_links}
 use Rattle.app_pair.specs.declared.inputs.Inputs.{Inputs}
 use Rattle.app_pair.specs.declared.pairing.PairOptions.{PairOptions}

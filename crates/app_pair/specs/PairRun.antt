@@ -5,7 +5,7 @@ use Rattle.app_base.specs.declared.status.Status.TheVariants.{RefusedFile, Stopp
 use Rattle.app_base.specs.declared.files.UnreadFile.{UnreadFile}
 use Rattle.app_base.specs.Ending.{Saying}
 use Rattle.app_base.specs.Files.{Readings, FilesGive, FirstUnread, PrintsRefusal}
-use Rattle.app_strict.specs.Refusals.{SaysUnless, is_loose}
+use Rattle.app_base.specs.Refusals.{SaysUnless, is_loose}
 use Rattle.app_pair.specs.declared.inputs.Inputs.{Inputs}
 use Rattle.app_pair.specs.declared.pairing.PairOptions.{PairOptions}
 use Rattle.app_pair.specs.declared.pairing.PairWords.{PairWords}

@@ -16,14 +16,14 @@ use Rattle.undo_core.specs.Shown.{Represents}
 use Rattle.wire_links.specs.Counted.{none_counted}
 use Rattle.bmc_ports.specs.Driving.{Links}
 use Rattle.text_lines.specs.RecordsLine.{records_line}
-use Rattle.changed_words.specs.Changes.{listed}
+use Rattle.report_words.specs.Changes.{listed}
 use Rattle.app_base.specs.declared.status.Status.{Status}
 use Rattle.app_base.specs.declared.status.Status.TheVariants.{Success, Stopped}
 use Rattle.app_serve.specs.declared.board.ClosedBoard.{ClosedBoard}
 use Rattle.app_serve.specs.Served.{IsServedBoard, most_events}
 use Rattle.app_run.specs.Driven.{DrivenState, CallRun, opened_with, fresh_links}
 use Rattle.app_run.specs.Lines.{phase_line}
-use Rattle.app_strict.specs.Statuses.{end_status, halts}
+use Rattle.app_base.specs.Statuses.{end_status, halts}
 use Rattle.app_pair.specs.declared.pairing.PairOptions.{PairOptions}
 use Rattle.app_pair.specs.declared.side.Driver.{Driver}
 

@@ -4,11 +4,11 @@ ghost use Rattle.std.specs.List.{flat_map};
 ghost use Rattle.text_lines.specs.Cuts.{ended};
 ghost use Rattle.cfg_records.specs.declared.board_file.BoardFile.{BoardFile as AnyFile};
 ghost use Rattle.undo_plans.specs.declared.plan.Plan.{Plan as AnyPlan};
-ghost use Rattle.changed_words.specs.Changes.{IsListOf};
+ghost use Rattle.report_words.specs.Changes.{IsListOf};
 ghost use Rattle.app_base.specs.declared.console.Stream.TheVariants.{Output};
 ghost use Rattle.app_base.specs.Ending.{RunEnds, ReportTells};
 ghost use Rattle.app_base.specs.Files.{FirstUnread};
-ghost use Rattle.app_strict.specs.Refusals.{SaysUnless, is_loose};
+ghost use Rattle.app_base.specs.Refusals.{SaysUnless, is_loose};
 ghost use Rattle.app_pair.specs.Paired.{CountsChanged, IsReady, RunsAndUndoes, TellsPair, changed_on, last_line, listed_on, status_by, status_of, text_of};
 ghost use Rattle.app_pair.specs.PairRun.{ArePairTexts, PrintsPair, PrintsPairOfFiles, SaysPair, words_of};
 
@@ -16,12 +16,14 @@ use crate::inputs::{Inputs, is_memory, read_inputs, refusal};
 use crate::links::{BusLinks, controller_ends, manager_ends};
 use crate::side::{Controller, Driver, Paired, Phases, pair_over};
 use app_base::files::refuse;
-use app_base::{Console, ReadFault, Report, ReportFault, Status, TextFiles, end_run, text_of};
+use app_base::{
+    Console, NamedText, ReadFault, Report, ReportFault, Status, TextFiles, end_run, end_status,
+    files_refusal, halts, text_of,
+};
 use app_run::{open_manager, push_phase};
 use app_serve::{Begun, ClosedBoard, begin, controller_ports, tally_of};
-use app_strict::{NamedText, end_status, files_refusal, halts};
 use cfg_records::{BoardFile, Key, StartValue};
-use changed_words::ChangeList;
+use report_words::ChangeList;
 use std::alloc::{AllocError, Global};
 use std::io;
 use std::net::Net;

@@ -10,7 +10,7 @@ use Rattle.record_base.specs.declared.message.Asked.{Asked}
 use Rattle.record_kinds.specs.Series.{Series, Reads, Sends}
 use Rattle.model_undo.specs.PhaseNames.{phase_name}
 use Rattle.undo_core.specs.Shown.{backs}
-use Rattle.text_undo.specs.UndoText.{line_of}
+use Rattle.text_lines.specs.UndoText.{line_of}
 use Rattle.lab_run.specs.declared.ages.FrameAge.{FrameAge}
 use Rattle.model_lab.specs.Lab.{LabFrame}
 use Rattle.lab_run.specs.declared.frames.SentFrame.{SentFrame}

@@ -4,7 +4,7 @@ use Rattle.cfg_records.specs.declared.board_file.BoardFile.{BoardFile}
 use Rattle.model_lab.specs.Lab.{Lab}
 use Rattle.model_lab.specs.Played.{plans, happens, after}
 use Rattle.model_headline.specs.Plays.{KeepsPremise, AllKeepPremise, TellsPremise}
-use Rattle.text_schedule.specs.declared.event.Event.{Event}
+use Rattle.text_lines.specs.declared.event.Event.{Event}
 
 same_head : (e d : Event) (es ds : List Event) → e ∷ es ≡ d ∷ ds → e ≡ d
 same_head e d es ds same = cc same

@@ -8,11 +8,11 @@ use Rattle.text_board.specs.Holds.{ReadsText}
 use Rattle.plan_file.specs.declared.plan_fault.PlanFault.{PlanFault}
 use Rattle.plan_file.specs.declared.plan_fault.PlanFault.TheVariants as plan
 use Rattle.plan_file.specs.PlanHolds.{ReadsPlan}
-use Rattle.text_schedule.specs.declared.event.Event.{Event}
-use Rattle.text_schedule.specs.declared.schedule.ScheduleFault.{ScheduleFault}
-use Rattle.text_schedule.specs.declared.schedule.ScheduleFault.TheVariants as line
-use Rattle.text_schedule.specs.Text.{lines_of}
-use Rattle.text_schedule.specs.Schedule.{AreLinesOf, IsFirstBad, TextIsRead}
+use Rattle.text_lines.specs.declared.event.Event.{Event}
+use Rattle.text_lines.specs.declared.schedule.ScheduleFault.{ScheduleFault}
+use Rattle.text_lines.specs.declared.schedule.ScheduleFault.TheVariants as line
+use Rattle.text_lines.specs.ScheduleText.{lines_of}
+use Rattle.text_lines.specs.Schedule.{AreLinesOf, IsFirstBad, TextIsRead}
 use Rattle.app_play.specs.declared.inputs.Inputs.{Inputs}
 use Rattle.app_play.specs.declared.inputs.InputFault.{InputFault}
 use Rattle.app_play.specs.declared.inputs.InputFault.TheVariants as fault

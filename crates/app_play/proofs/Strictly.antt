@@ -6,7 +6,7 @@ use Rattle.text_lines.specs.Cuts.{ended}
 use Rattle.cfg_records.specs.declared.board_file.BoardFile.{BoardFile}
 use Rattle.cfg_records.specs.Records.{Records}
 use Rattle.record_base.specs.declared.op.Op.{Op}
-use Rattle.text_schedule.specs.declared.event.Event.{Event}
+use Rattle.text_lines.specs.declared.event.Event.{Event}
 use Rattle.model_lab.specs.declared.fault.Fault.{Fault}
 use Rattle.model_lab.specs.Played.{Told, Ending, Whole, Stops}
 use Rattle.model_headline.specs.Plays.{taken_by, told_by, TellsPremise}
@@ -19,7 +19,7 @@ use Rattle.lab_play.specs.declared.played.LabFault.{LabFault}
 use Rattle.lab_play.specs.declared.played.LabFault.TheVariants as fault
 use Rattle.lab_play.specs.declared.played.Played.{Played}
 use Rattle.lab_play.specs.declared.run.Stopped.{Stopped}
-use Rattle.changed_words.specs.Changes.{listed}
+use Rattle.report_words.specs.Changes.{listed}
 use Rattle.app_base.specs.declared.console.Console.{Console}
 use Rattle.app_base.specs.declared.console.Stream.{Stream}
 use Rattle.app_base.specs.declared.files.UnreadFile.{UnreadFile}
@@ -28,7 +28,7 @@ use Rattle.app_base.specs.declared.status.Status.{Status}
 use Rattle.app_base.specs.Ending.{RunEnds}
 use Rattle.app_base.specs.EndingLaws.{run_ends_as}
 use Rattle.app_base.specs.Files.{FirstUnread, PrintsRefusal, Readings}
-use Rattle.app_strict.specs.Refusals.{SaysUnless, is_loose}
+use Rattle.app_base.specs.Refusals.{SaysUnless, is_loose}
 use Rattle.app_play.specs.declared.account.Account.{Account}
 use Rattle.app_play.specs.declared.inputs.Inputs.{Inputs}
 use Rattle.app_play.specs.declared.run.Shown.{Shown}

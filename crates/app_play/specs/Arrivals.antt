@@ -1,8 +1,8 @@
 -- Which frames came to an end.
 use Rattle.std.specs.Prelude.{◌≡◌, ℕ, ◌==◌, Bool, false, not, List, get_or, length, filter}
 use Rattle.std.specs.List.{list_any, range_with_len}
-use Rattle.text_schedule.specs.declared.event.Event.{Event}
-use Rattle.text_schedule.specs.declared.event.Event.TheVariants as event
+use Rattle.text_lines.specs.declared.event.Event.{Event}
+use Rattle.text_lines.specs.declared.event.Event.TheVariants as event
 use Rattle.lab_run.specs.declared.note.Note.{Note}
 use Rattle.app_play.specs.declared.arrivals.Arrivals.{Arrivals}
 

@@ -5,9 +5,9 @@ use Rattle.std.specs.Fmt.{decimal}
 use Rattle.text_lines.specs.Cuts.{ended}
 use Rattle.two_wire.specs.declared.Bus.{Bus}
 use Rattle.two_wire.specs.declared.Bus.TheVariants.{Ipmb, Smbus}
-use Rattle.text_schedule.specs.declared.event.Event.{Event}
-use Rattle.text_schedule.specs.declared.event.Event.TheVariants as event
-use Rattle.text_schedule.specs.Line.{call_name, event_name}
+use Rattle.text_lines.specs.declared.event.Event.{Event}
+use Rattle.text_lines.specs.declared.event.Event.TheVariants as event
+use Rattle.text_lines.specs.EventLine.{call_name, event_name}
 use Rattle.bmc_core.specs.declared.out.Disposition.{Disposition}
 use Rattle.bmc_core.specs.declared.out.Disposition.TheVariants as done
 use Rattle.model_undo.specs.PhaseNames.{phase_name}

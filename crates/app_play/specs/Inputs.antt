@@ -8,8 +8,8 @@ use Rattle.text_board.specs.Holds.{ReadsText}
 use Rattle.plan_file.specs.PlanHolds.{ReadsPlan}
 use Rattle.text_board.specs.Names.{fault_name}
 use Rattle.plan_file.specs.PlanNames.{plan_fault_name}
-use Rattle.text_schedule.specs.Schedule.{TextIsRead}
-use Rattle.text_schedule.specs.Names.{schedule_fault_name}
+use Rattle.text_lines.specs.Schedule.{TextIsRead}
+use Rattle.text_lines.specs.EventNames.{schedule_fault_name}
 use Rattle.app_play.specs.declared.inputs.Inputs.{Inputs}
 use Rattle.app_play.specs.declared.inputs.InputFault.{InputFault}
 use Rattle.app_play.specs.declared.inputs.InputFault.TheVariants as fault

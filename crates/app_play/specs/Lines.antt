@@ -5,7 +5,7 @@ use Rattle.std.specs.Fmt.{decimal}
 use Rattle.hex.specs.Hex.{encode_upper}
 use Rattle.text_lines.specs.Cuts.{ended}
 use Rattle.record_base.specs.declared.message.Asked.{Asked}
-use Rattle.text_undo.specs.UndoText.{line_of}
+use Rattle.text_lines.specs.UndoText.{line_of}
 use Rattle.two_wire.specs.Buses.{bus_name}
 use Rattle.model_undo.specs.PhaseNames.{phase_name}
 use Rattle.model_lab.specs.declared.way.Way.{Way}

@@ -2,7 +2,7 @@
 use Rattle.std.specs.Prelude.{◌≡◌, ℕ, Bool, true, false, List, [], ◌∷◌, ◌++◌, None, Ok, Err}
 use Rattle.text_board.specs.declared.fault.FileFault.TheVariants as of_file
 use Rattle.plan_file.specs.declared.plan_fault.PlanFault.TheVariants as of_plan
-use Rattle.text_schedule.specs.declared.schedule.ScheduleFault.TheVariants as of_schedule
+use Rattle.text_lines.specs.declared.schedule.ScheduleFault.TheVariants as of_schedule
 use Rattle.app_play.specs.declared.inputs.Inputs.{Inputs}
 use Rattle.app_play.specs.declared.inputs.InputFault.{InputFault}
 use Rattle.app_play.specs.declared.inputs.InputFault.TheVariants as fault

@@ -4,7 +4,7 @@ use Rattle.std.specs.List.{flat_map}
 use Rattle.text_lines.specs.Cuts.{ended}
 use Rattle.cfg_records.specs.declared.board_file.BoardFile.{BoardFile}
 use Rattle.record_base.specs.declared.op.Op.{Op}
-use Rattle.text_schedule.specs.declared.event.Event.{Event}
+use Rattle.text_lines.specs.declared.event.Event.{Event}
 use Rattle.model_lab.specs.Played.{Ending}
 use Rattle.model_headline.specs.Plays.{told_by}
 use Rattle.lab_run.specs.declared.note.Note.{Note}
@@ -14,14 +14,14 @@ use Rattle.lab_play.specs.Restarting.{NotesTurns, RestartedResult}
 use Rattle.lab_play.specs.declared.played.LabFault.{LabFault}
 use Rattle.lab_play.specs.declared.played.Played.{Played}
 use Rattle.lab_play.specs.declared.run.Stopped.{Stopped}
-use Rattle.changed_words.specs.Changes.{listed}
+use Rattle.report_words.specs.Changes.{listed}
 use Rattle.app_base.specs.declared.console.Stream.TheVariants.{Output, Error}
 use Rattle.app_base.specs.declared.status.Status.{Status}
 use Rattle.app_base.specs.declared.status.Status.TheVariants.{RefusedFile, RefusedWords}
 use Rattle.app_base.specs.Ending.{Saying}
 use Rattle.app_base.specs.Files.{Readings}
-use Rattle.app_strict.specs.Refusals.{SaysUnless, is_loose}
-use Rattle.app_strict.specs.Statuses.{end_status}
+use Rattle.app_base.specs.Refusals.{SaysUnless, is_loose}
+use Rattle.app_base.specs.Statuses.{end_status}
 use Rattle.app_play.specs.declared.account.Account.{Account}
 use Rattle.app_play.specs.declared.inputs.InputFault.{InputFault}
 use Rattle.app_play.specs.declared.inputs.Inputs.{Inputs}

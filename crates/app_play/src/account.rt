@@ -9,8 +9,7 @@ use crate::lines::{push_frames, push_premise, push_stopped};
 use lab_play::Stopped;
 use lab_run::SentFrame;
 use std::alloc::{AllocError, Global};
-use text_lines::push_records;
-use text_undo::push_requests;
+use text_lines::{push_records, push_requests};
 use undo_core::Phase;
 use undo_plans::Requests;
 

@@ -5,7 +5,7 @@ ghost use Rattle.app_play.specs.Arrivals.{delivers, lost_from, HoldsNotes};
 
 use lab_run::Note;
 use std::alloc::{AllocError, Global};
-use text_schedule::Event;
+use text_lines::Event;
 
 /// For each number whether a frame of it came.
 #[derive(Drop)]

@@ -8,7 +8,7 @@ use crate::arrivals::Arrivals;
 use bmc_core::Disposition;
 use lab_run::{Delivery, Note};
 use std::alloc::{AllocError, Global};
-use text_schedule::{Event, call_name};
+use text_lines::{Event, call_name};
 use two_wire::Bus;
 
 /// The call, where the manager is called.

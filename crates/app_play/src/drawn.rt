@@ -14,7 +14,7 @@ use cfg_records::BoardFile;
 use lab_play::{Stopped, play_noted};
 use lab_run::Note;
 use std::alloc::{AllocError, Global};
-use text_schedule::Event;
+use text_lines::Event;
 use undo_plans::Plan;
 
 /// Plays a plan on a board by a schedule, notes each event that happens, and gives the event that the lab didn't take.

@@ -8,8 +8,7 @@ ghost use Rattle.app_play.specs.Strict.{PrintsAskedOfFiles};
 use crate::run::Shown;
 use crate::strict::{PlayOptions, PlayTexts, show_asked};
 use app_base::files::refuse;
-use app_base::{Console, ReadFault, TextFiles, text_of};
-use app_strict::NamedText;
+use app_base::{Console, NamedText, ReadFault, TextFiles, text_of};
 use std::alloc::Global;
 use std::io;
 

@@ -6,7 +6,7 @@ use plan_file::{PlanFault, read_plan};
 use std::alloc::Global;
 use std::fmt;
 use text_board::{FileFault, read_board};
-use text_schedule::{Schedule, ScheduleFault, read_schedule};
+use text_lines::{Schedule, ScheduleFault, read_schedule};
 use undo_plans::Plan;
 
 /// What a play begins with, and what happens in it.

@@ -37,6 +37,6 @@ pub fn one_run()
     one_text();
     text_board::one_board();
     plan_file::one_plan();
-    text_schedule::one_schedule();
-    text_schedule::refused_or_told();
+    text_lines::one_schedule();
+    text_lines::refused_or_told();
 }

@@ -16,7 +16,7 @@ use cfg_records::BoardFile;
 use lab_play::{Stopped, play_restarting};
 use lab_run::Note;
 use std::alloc::{AllocError, Global};
-use text_schedule::Event;
+use text_lines::Event;
 use undo_plans::Plan;
 
 /// The first of the places that is behind the last of the events.

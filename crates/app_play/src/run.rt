@@ -18,7 +18,7 @@ use plan_file::PlanFault;
 use std::alloc::{AllocError, Global};
 use std::io;
 use text_board::FileFault;
-use text_schedule::ScheduleFault;
+use text_lines::ScheduleFault;
 
 /// How what was played is shown.
 #[derive(Clone, Copy)]

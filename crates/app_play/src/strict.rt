@@ -3,10 +3,10 @@ ghost use Rattle.std.specs.Prelude.{◌≡◌, [], IfOk, string_bytes};
 ghost use Rattle.cfg_records.specs.declared.board_file.BoardFile.{BoardFile as AnyFile};
 ghost use Rattle.model_lab.specs.Played.{Told};
 ghost use Rattle.lab_play.specs.Ends.{TellsPlay};
-ghost use Rattle.changed_words.specs.Changes.{IsListOf, listed};
+ghost use Rattle.report_words.specs.Changes.{IsListOf, listed};
 ghost use Rattle.app_base.specs.declared.console.Stream.TheVariants.{Output};
 ghost use Rattle.app_base.specs.Ending.{RunEnds};
-ghost use Rattle.app_strict.specs.Refusals.{SaysUnless, is_loose};
+ghost use Rattle.app_base.specs.Refusals.{SaysUnless, is_loose};
 ghost use Rattle.app_play.specs.Strict.{DrawsBy, NotesBy, NotesEnd, PlaysBy, PrintsAsked, PrintsStrictly, RecountsBy, SaysBy};
 ghost use Rattle.app_play.specs.Strict.{drawing_by, ended_by, listed_text};
 
@@ -17,15 +17,14 @@ use crate::inputs::{Inputs, read_inputs};
 use crate::report::{account_of, status};
 use crate::restarted::{self, first_behind, place_refusal};
 use crate::run::{Shown, is_memory, refusal_report, show};
-use app_base::{Console, Ending, Report, Status};
-use app_strict::{NamedText, end_status, files_refusal};
+use app_base::{Console, Ending, NamedText, Report, Status, end_status, files_refusal};
 use cfg_records::BoardFile;
-use changed_words::ChangeList;
 use lab_play::{LabFault, Played, Stopped, play_noted, play_restarting};
 use lab_run::Note;
+use report_words::ChangeList;
 use std::alloc::{AllocError, Global};
 use std::io;
-use text_schedule::Event;
+use text_lines::Event;
 use undo_plans::Plan;
 
 /// What a play is asked for beside how it is shown.

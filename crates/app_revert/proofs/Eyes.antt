@@ -5,8 +5,8 @@ use Rattle.std.proofs.lemmas.List.{take_all, take_more}
 use Rattle.std.proofs.lemmas.Option.{same_Some, slice_get_cases}
 use Rattle.record_base.specs.declared.key.Key.{Key}
 use Rattle.record_base.specs.declared.message.Asked.{Asked}
-use Rattle.look_links.specs.declared.driver.LookEnd.{LookEnd}
-use Rattle.look_links.specs.declared.driver.LookEnd.TheVariants.{Shown, Refused, Silent}
+use Rattle.app_look.specs.declared.look_driver.LookEnd.{LookEnd}
+use Rattle.app_look.specs.declared.look_driver.LookEnd.TheVariants.{Shown, Refused, Silent}
 use Rattle.app_revert.specs.declared.looking.Eye.{Eye}
 use Rattle.app_revert.specs.declared.looking.Looked.{Looked}
 use Rattle.app_revert.specs.Looks.{EyeLooksAt, LooksBy, LooksEach, LooksOn, LooksOnce, LooksOnceAt, begun_at, goes_on_at}

@@ -12,7 +12,7 @@ use Rattle.app_journal.specs.declared.files.WritesFiles as written
 use Rattle.app_journal.specs.declared.standing.Standing.{Standing}
 use Rattle.app_journal.specs.declared.undo_files.UndoFiles.{UndoFiles}
 use Rattle.app_journal.specs.Beside.{GivesUndo}
-use Rattle.text_undo.specs.UndoText.{text_of}
+use Rattle.text_lines.specs.UndoText.{text_of}
 use Rattle.undo_plans.specs.declared.undo_list.UndoList.{UndoList}
 use Rattle.app_apply.specs.declared.outcome.Outcome.{Outcome}
 use Rattle.app_revert.specs.declared.reverting.Reverted.{Reverted}

@@ -1,8 +1,8 @@
 -- Why no manager takes back what a text says.
 use Rattle.std.proofs.Common.{◌≡◌, ◌⊎◌, ℕ, List, inl, inr, subst, sym}
-use Rattle.text_undo.specs.declared.text.UndoFault.{UndoFault}
-use Rattle.text_undo.specs.declared.text.UndoFault.TheVariants as unread
-use Rattle.text_undo.specs.UndoText.{IsFirstBad, IsTextOf}
+use Rattle.text_lines.specs.declared.undo_text.UndoFault.{UndoFault}
+use Rattle.text_lines.specs.declared.undo_text.UndoFault.TheVariants as unread
+use Rattle.text_lines.specs.UndoText.{IsFirstBad, IsTextOf}
 use Rattle.undo_plans.specs.declared.undo_list.UndoList.{UndoList}
 use Rattle.model_lab.specs.Meaning.{lab_names}
 use Rattle.undo_core.specs.Shown.{AreOthers}

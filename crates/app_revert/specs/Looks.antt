@@ -21,9 +21,9 @@ use Rattle.undo_look.specs.declared.stage.Stage.{Stage}
 use Rattle.undo_look.specs.declared.stage.Stage.TheVariants as stage
 use Rattle.undo_look.specs.declared.target.Target.TheVariants.{Record}
 use Rattle.undo_look.specs.Looks.{StepResult, again_at, begin_at, opened_at, state_of}
-use Rattle.look_links.specs.declared.driver.LookEnd.{LookEnd}
-use Rattle.look_links.specs.declared.driver.LookEnd.TheVariants.{Silent}
-use Rattle.look_links.specs.Driven as driven
+use Rattle.app_look.specs.declared.look_driver.LookEnd.{LookEnd}
+use Rattle.app_look.specs.declared.look_driver.LookEnd.TheVariants.{Silent}
+use Rattle.app_look.specs.Driven as driven
 use Rattle.app_run.specs.Driven.{undo_retries}
 use Rattle.app_revert.specs.declared.looking.Eye.{Eye}
 use Rattle.app_revert.specs.declared.looking.Looked.{Looked}

@@ -6,8 +6,8 @@ use Rattle.two_wire.specs.declared.Bus.{Bus}
 use Rattle.two_wire.specs.declared.Bus.TheVariants.{Ipmb, Smbus}
 use Rattle.record_base.specs.declared.message.Asked.{Asked}
 use Rattle.undo_plans.specs.declared.undo_list.UndoList.{UndoList}
-use Rattle.text_undo.specs.UndoText.{IsTextOf, IsFirstBad, text_of}
-use Rattle.model_ports.specs.Wires.{bus_of}
+use Rattle.text_lines.specs.UndoText.{IsTextOf, IsFirstBad, text_of}
+use Rattle.bmc_core.specs.Wires.{bus_of}
 use Rattle.model_undo.specs.Machine.{open_bus}
 use Rattle.model_lab.specs.Meaning.{lab_names}
 use Rattle.model_undo.specs.declared.call.Call.TheVariants.{Undo, Again}
@@ -28,10 +28,10 @@ use Rattle.app_journal.specs.Keeping.{IsJournalText, PutsJournal}
 use Rattle.undo_core.specs.Journals.{kept_by}
 use Rattle.app_journal.specs.Reviving.{IsFault, IsMadeOf}
 use Rattle.app_journal.specs.Standing.{IsStanding}
-use Rattle.undo_journal.specs.declared.stage.KeptStage.{KeptStage}
-use Rattle.undo_journal.specs.declared.stage.KeptStage.TheVariants as stage
-use Rattle.text_undo.specs.declared.text.UndoFault.{UndoFault}
-use Rattle.text_undo.specs.declared.text.UndoFault.TheVariants as unread
+use Rattle.undo_plans.specs.declared.kept_stage.KeptStage.{KeptStage}
+use Rattle.undo_plans.specs.declared.kept_stage.KeptStage.TheVariants as stage
+use Rattle.text_lines.specs.declared.undo_text.UndoFault.{UndoFault}
+use Rattle.text_lines.specs.declared.undo_text.UndoFault.TheVariants as unread
 use Rattle.app_journal.specs.declared.reviving.ReviveFault.{ReviveFault}
 use Rattle.app_journal.specs.declared.reviving.ReviveFault.TheVariants as fault
 use Rattle.app_journal.specs.declared.standing.Standing.{Standing}

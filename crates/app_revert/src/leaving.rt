@@ -1,7 +1,7 @@
 //! What `bmcnet revert` leaves of FILE: what was taken back, and what is still to be.
 ghost use Rattle.std.specs.Prelude.{◌≡◌, ◌<◌, ◌≤◌, ◌⊎◌, IfOk, Ok, OnErr, length, suc, take};
 ghost use Rattle.undo_plans.specs.Steps.{most_steps};
-ghost use Rattle.text_undo.specs.UndoText.{text_of};
+ghost use Rattle.text_lines.specs.UndoText.{text_of};
 ghost use Rattle.app_journal.specs.Beside.{GivesUndo, IsOwn};
 ghost use Rattle.app_revert.specs.Revert.{IsEmptied, IsFirstOf};
 ghost use Rattle.app_revert.specs.Revert.{Leaves, LeavesBehind, LeavesIn, LeavesRefused};
@@ -14,7 +14,7 @@ use app_apply::guarding::put_aside;
 use app_base::text_of;
 use app_journal::{UndoFiles, WriteFault, WritesFiles, is_free};
 use std::alloc::{AllocError, Global};
-use text_undo::write_undo;
+use text_lines::write_undo;
 use undo_core::{Manager, Phase};
 use undo_plans::{Requests, UndoList};
 

@@ -11,8 +11,8 @@ ghost use Rattle.app_revert.specs.Looks.{ShowsSo, Tells, TellsNoAnswer, TellsNot
 ghost use Rattle.app_revert.specs.Looks.{leaves_alone, selects_none};
 
 use app_apply::{MOST_TURNS, Reach};
+use app_look::{LookEnd, drive_again, drive_look};
 use app_run::{BusLinks, open_ends};
-use look_links::{LookEnd, drive_again, drive_look};
 use model_lab::lab_names;
 use record_base::{EventChange, EventMasks, Key, Op, RecordKind, SetEventEnable};
 use record_kinds::Limits;

@@ -1,7 +1,7 @@
 //! What FILE says to `bmcnet revert`: the manager that takes back, or why there is none.
 ghost use Rattle.std.specs.Prelude.{◌≡◌, ◌⊎◌, IfErr, IfOk, Ok};
 ghost use Rattle.undo_plans.specs.declared.undo_list.UndoList.{UndoList as AnyList};
-ghost use Rattle.text_undo.specs.UndoText.{IsTextOf};
+ghost use Rattle.text_lines.specs.UndoText.{IsTextOf};
 ghost use Rattle.model_lab.specs.Meaning.{lab_names};
 ghost use Rattle.undo_core.specs.Shown.{AreOthers, Represents};
 ghost use Rattle.app_journal.specs.Reviving.{IsMadeOf};
@@ -13,7 +13,7 @@ ghost use Rattle.app_revert.specs.Revert.{IsUnfit, unfit_journal, unfit_undo};
 use app_journal::{ReviveFault, revive_text};
 use app_run::{RemakeFault, is_journal, resume_manager};
 use std::alloc::Global;
-use text_undo::{UndoFault, read_undo};
+use text_lines::{UndoFault, read_undo};
 use undo_core::Manager;
 use undo_plans::UndoList;
 

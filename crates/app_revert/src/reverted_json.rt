@@ -5,13 +5,13 @@ use crate::reverting::{RevertWords, Reverted};
 use app_apply::objects::object_line;
 use app_apply::sentences::push_revert;
 use app_apply::{Outcome, Reach};
-use code_words::code_row;
 use record_words::{RecordName, undo_in_words};
+use report_words::code_row;
 use serde::Serialize;
 use std::alloc::{AllocError, Global};
 use two_wire::Code;
 use undo_core::{Manager, Phase};
-use undo_journal::{KeptStage, KeptTask};
+use undo_plans::{KeptStage, KeptTask};
 
 /// The request that takes a step back, and that was refused. A member of which there is nothing to say is left out.
 #[derive(Drop, Serialize)]

@@ -1,6 +1,6 @@
 //! `bmcnet revert`: what FILE says is taken back on a controller, and FILE keeps the journal of that meanwhile.
 ghost use Rattle.std.specs.Prelude.{◌≡◌, ◌≤◌, ◌||◌, IfOk, Ok, false, length, true, string_bytes};
-ghost use Rattle.text_undo.specs.UndoText.{text_of};
+ghost use Rattle.text_lines.specs.UndoText.{text_of};
 ghost use Rattle.app_base.specs.Ending.{RunEnds};
 ghost use Rattle.app_apply.specs.Ends.{SaysOn, stream_for};
 ghost use Rattle.undo_core.specs.Journals.{kept_by};
@@ -32,8 +32,7 @@ use std::io;
 use std::net::Net;
 use two_wire::Bus;
 use undo_core::{Manager, Phase};
-use undo_journal::KeptStage;
-use undo_plans::Requests;
+use undo_plans::{KeptStage, Requests};
 
 /// What the words of `bmcnet revert` ask for.
 #[derive(Drop)]

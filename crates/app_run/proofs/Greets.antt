@@ -5,8 +5,8 @@ use Rattle.two_wire.specs.declared.Bus.{Bus}
 use Rattle.wire_links.specs.declared.link.Link.{Ghosts}
 use Rattle.undo_plans.specs.declared.names.Names.{Names}
 use Rattle.model_lab.specs.Meaning.{lab_names}
-use Rattle.undo_greeting.specs.declared.greeting.Greeting.{Greeting}
-use Rattle.undo_greeting.specs.declared.greeting.Stage.TheVariants.{AtStart}
+use Rattle.undo_plans.specs.declared.greeting.Greeting.{Greeting}
+use Rattle.undo_plans.specs.declared.greeting.GreetingStage.TheVariants.{AtStart}
 use Rattle.undo_core.specs.declared.manager.Manager.{Manager}
 use Rattle.undo_core.specs.Shown.{Represents}
 use Rattle.bmc_ports.specs.declared.greeter.GreetEnd.{GreetEnd}

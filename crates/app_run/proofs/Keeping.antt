@@ -1,7 +1,7 @@
 -- What is kept of a manager's list.
 use Rattle.std.specs.Prelude.{Result}
 use Rattle.std.proofs.Common.{◌≡◌, Bool, true, subst, sym}
-use Rattle.text_undo.specs.UndoText.{text_of}
+use Rattle.text_lines.specs.UndoText.{text_of}
 use Rattle.undo_plans.specs.declared.undo_list.UndoList.{UndoList}
 use Rattle.undo_core.specs.declared.manager.Manager.{Manager}
 use Rattle.app_journal.specs.declared.files.WriteFault.{WriteFault}

@@ -1,8 +1,8 @@
 -- What comes of the undo of a list.
 use Rattle.std.proofs.Common.{◌≡◌, ◌↔◌, ◌⊎◌, ℕ, List, false, Result, Ok, Err, inl, inr, refl, subst, sym}
-use Rattle.text_undo.specs.declared.text.UndoFault.{UndoFault}
-use Rattle.text_undo.specs.declared.text.UndoFault.TheVariants as fault
-use Rattle.text_undo.specs.UndoText.{IsFirstBad}
+use Rattle.text_lines.specs.declared.undo_text.UndoFault.{UndoFault}
+use Rattle.text_lines.specs.declared.undo_text.UndoFault.TheVariants as fault
+use Rattle.text_lines.specs.UndoText.{IsFirstBad}
 use Rattle.undo_plans.specs.declared.undo_list.UndoList.{UndoList}
 use Rattle.model_lab.specs.Meaning.{lab_names}
 use Rattle.undo_core.specs.Shown.{AreOthers}

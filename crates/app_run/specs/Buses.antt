@@ -3,7 +3,7 @@ use Rattle.std.specs.Prelude.{Bool, false, ◌||◌, List, [], ◌∷◌}
 use Rattle.two_wire.specs.declared.Bus.{Bus}
 use Rattle.record_base.specs.declared.op.Op.{Op}
 use Rattle.record_kinds.specs.Limits.{get_asked, key_of}
-use Rattle.model_ports.specs.Wires.{bus_of}
+use Rattle.bmc_core.specs.Wires.{bus_of}
 use Rattle.model_undo.specs.Machine.{same_bus}
 
 -- that of the step's Get, on which its other requests go, too

@@ -9,9 +9,9 @@ use Rattle.wire_links.specs.Counted.{none_counted}
 use Rattle.undo_plans.specs.declared.plan.Plan.{Plan}
 use Rattle.undo_plans.specs.declared.undo_list.UndoList.{UndoList}
 use Rattle.model_lab.specs.Meaning.{lab_names}
-use Rattle.model_ports.specs.Wires.{bus_of}
-use Rattle.undo_greeting.specs.declared.greeting.Greeting.{Greeting}
-use Rattle.undo_greeting.specs.declared.greeting.Stage.TheVariants.{AtStart}
+use Rattle.bmc_core.specs.Wires.{bus_of}
+use Rattle.undo_plans.specs.declared.greeting.Greeting.{Greeting}
+use Rattle.undo_plans.specs.declared.greeting.GreetingStage.TheVariants.{AtStart}
 use Rattle.bmc_ports.specs.declared.greeter.GreetEnd.{GreetEnd}
 use Rattle.bmc_ports.specs.declared.greeter.GreetEnd.TheVariants as ends
 use Rattle.bmc_ports.specs.Conversation.{BothLinks}

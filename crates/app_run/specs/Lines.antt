@@ -6,8 +6,8 @@ use Rattle.model_undo.specs.declared.phase.Phase.{Phase}
 use Rattle.model_undo.specs.PhaseNames.{phase_name}
 use Rattle.plan_file.specs.declared.plan_fault.PlanFault.{PlanFault}
 use Rattle.plan_file.specs.PlanNames.{plan_fault_name}
-use Rattle.text_undo.specs.declared.text.UndoFault.{UndoFault}
-use Rattle.text_undo.specs.UndoNames.{undo_fault_name}
+use Rattle.text_lines.specs.declared.undo_text.UndoFault.{UndoFault}
+use Rattle.text_lines.specs.UndoNames.{undo_fault_name}
 use Rattle.app_run.specs.declared.greeting.Unanswered.{Unanswered}
 use Rattle.app_run.specs.Greeted.{answer_word}
 

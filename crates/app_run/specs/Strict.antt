@@ -7,8 +7,8 @@ use Rattle.app_base.specs.declared.console.Stream.TheVariants.{Error}
 use Rattle.app_base.specs.declared.status.Status.{Status}
 use Rattle.app_base.specs.declared.status.Status.TheVariants.{RefusedFile, Success, Unsettled}
 use Rattle.app_base.specs.Ending.{Saying}
-use Rattle.app_strict.specs.Refusals.{is_loose_plan}
-use Rattle.app_strict.specs.Statuses.{strict_status}
+use Rattle.app_base.specs.Refusals.{is_loose_plan}
+use Rattle.app_base.specs.Statuses.{strict_status}
 
 -- how a run ends that left its manager in this phase
 abbrev pub ran_status : (strict : Bool) → Phase → Status

@@ -7,8 +7,8 @@ use Rattle.undo_plans.specs.declared.undo_list.UndoList.{UndoList}
 use Rattle.plan_file.specs.declared.kind.Kind.{Kind}
 use Rattle.plan_file.specs.Kinds.{kind_of}
 use Rattle.plan_file.specs.PlanHolds.{ReadsPlan}
-use Rattle.text_undo.specs.UndoText.{IsTextOf}
-use Rattle.undo_journal.specs.Kept.{Kept}
+use Rattle.text_lines.specs.UndoText.{IsTextOf}
+use Rattle.undo_plans.specs.KeptManager.{Kept}
 use Rattle.undo_core.specs.Journals.{kept_by}
 use Rattle.model_undo.specs.declared.call.Call.{Call}
 use Rattle.model_undo.specs.declared.call.Call.TheVariants.{Start, Undo, Again}

@@ -2,9 +2,9 @@
 use Rattle.std.specs.Prelude.{◌≡◌, ◌⊎◌, ℕ, List, length, Bool, false, Some, None, Option, Result, Ok, Err, string_bytes}
 use Rattle.std.specs.declared.alloc.AllocError.{AllocError}
 use Rattle.undo_plans.specs.declared.undo_list.UndoList.{UndoList}
-use Rattle.text_undo.specs.declared.text.UndoFault.{UndoFault}
-use Rattle.text_undo.specs.declared.text.UndoFault.TheVariants as fault
-use Rattle.text_undo.specs.UndoText.{IsTextOf, IsFirstBad}
+use Rattle.text_lines.specs.declared.undo_text.UndoFault.{UndoFault}
+use Rattle.text_lines.specs.declared.undo_text.UndoFault.TheVariants as fault
+use Rattle.text_lines.specs.UndoText.{IsTextOf, IsFirstBad}
 use Rattle.model_undo.specs.declared.phase.Phase.TheVariants.{Undone}
 use Rattle.model_lab.specs.Meaning.{lab_names}
 use Rattle.undo_core.specs.Shown.{AreOthers, Represents}

@@ -1,6 +1,6 @@
 //! The buses on which requests go.
 ghost use Rattle.std.specs.Prelude.{◌≡◌, ◌||◌, map};
-ghost use Rattle.model_ports.specs.Wires.{bus_of as bus_of_request};
+ghost use Rattle.bmc_core.specs.Wires.{bus_of as bus_of_request};
 ghost use Rattle.model_undo.specs.Machine.{same_bus};
 ghost use Rattle.undo_plans.specs.Requests.{meant};
 ghost use Rattle.app_run.specs.Buses.{bus_of_step, is_used};

@@ -12,8 +12,7 @@ use bmc_ports::{GreetEnd, drive_greeting};
 use model_lab::lab_names;
 use std::net::Net;
 use two_wire::{Bus, Retries};
-use undo_greeting::Greeting;
-use undo_plans::{Plan, UndoList};
+use undo_plans::{Greeting, Plan, UndoList};
 use wire_links::Link;
 
 /// Which greeting wasn't answered.

@@ -14,7 +14,7 @@ use app_base::{Console, Ending, Report, ReportFault, Status, end_run};
 use plan_file::PlanFault;
 use std::alloc::{AllocError, Global};
 use std::io;
-use text_undo::UndoFault;
+use text_lines::UndoFault;
 use undo_core::Phase;
 
 /// Adds the line of a manager's phase.

@@ -4,7 +4,7 @@ ghost use Rattle.app_base.specs.declared.console.Stream.TheVariants.{Error};
 ghost use Rattle.app_base.specs.declared.status.Status.TheVariants.{RefusedFile};
 ghost use Rattle.app_base.specs.Ending.{ReportTells};
 ghost use Rattle.app_journal.specs.declared.reviving.ReviveFault.{ReviveFault as AnyFault};
-ghost use Rattle.undo_journal.specs.Journals.{kept_of as kept_of_view};
+ghost use Rattle.undo_plans.specs.Journals.{kept_of as kept_of_view};
 ghost use Rattle.model_undo.specs.declared.call.Call.TheVariants.{Undo};
 ghost use Rattle.app_base.specs.declared.ending.ReportFault.TheVariants.{Stopped as HasStopped};
 ghost use Rattle.model_lab.specs.Meaning.{lab_names};
@@ -40,7 +40,7 @@ use std::net::Net;
 use text_journal::JournalTextFault;
 use text_lines::behind;
 use undo_core::{Manager, Phase, Sent, WrongPhase};
-use undo_journal::{JournalView, KeptStage};
+use undo_plans::{JournalView, KeptStage};
 use wire_links::Link;
 
 /// What the manager of a journal is called for.

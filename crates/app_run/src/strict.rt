@@ -1,11 +1,10 @@
 //! How a run and an undo end strictly, and which plans a strict run refuses.
 ghost use Rattle.std.specs.Prelude.{◌≡◌, IfOk};
-ghost use Rattle.app_strict.specs.Refusals.{RefusedIf};
+ghost use Rattle.app_base.specs.Refusals.{RefusedIf};
 ghost use Rattle.app_run.specs.Strict.{is_refused, ran_status, undone_status, ungreeted_status};
 
 use crate::running::RunWords;
-use app_base::{Report, Status};
-use app_strict::{NamedText, plan_refusal, strict_status};
+use app_base::{NamedText, Report, Status, plan_refusal, strict_status};
 use std::alloc::{AllocError, Global};
 use undo_core::Phase;
 use undo_plans::Plan;

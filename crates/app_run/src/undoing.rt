@@ -24,7 +24,7 @@ use app_journal::{
 use std::alloc::{AllocError, Global};
 use std::io;
 use std::net::Net;
-use text_undo::{UndoFault, read_undo};
+use text_lines::{UndoFault, read_undo};
 use undo_core::{Manager, Phase};
 use undo_plans::UndoList;
 

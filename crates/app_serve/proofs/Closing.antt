@@ -5,9 +5,9 @@ use Rattle.bmc_board.specs.State.{State, state_of}
 use Rattle.app_serve.specs.declared.periods.Period.{Period}
 use Rattle.app_serve.specs.declared.periods.PeriodState.{PeriodState}
 use Rattle.wire_links.specs.declared.link.Link.{Ghosts}
-use Rattle.bmc_history.specs.declared.event.Call.{Call}
-use Rattle.bmc_history.specs.declared.event.Event.{Event}
-use Rattle.bmc_history.specs.Replay.{calls_of}
+use Rattle.bmc_shared.specs.declared.event.Call.{Call}
+use Rattle.bmc_shared.specs.declared.event.Event.{Event}
+use Rattle.bmc_shared.specs.Replay.{calls_of}
 use Rattle.bmc_shared.specs.declared.seat.Seats.{Seats}
 use Rattle.bmc_shared.specs.Seated.{IsFreshSeat, calls_made}
 use Rattle.bmc_shared.specs.declared.worker.End.{End}

@@ -6,9 +6,9 @@ use Rattle.std.proofs.lemmas.List.Sums.{sum_by_push}
 use Rattle.cfg_records.specs.declared.board_file.BoardFile.{BoardFile}
 use Rattle.bmc_board.specs.State.{State, state_of}
 use Rattle.wire_links.specs.declared.link.Link.{Ghosts}
-use Rattle.bmc_history.specs.declared.event.Event.{Event}
-use Rattle.bmc_history.specs.declared.event.Call.{Call}
-use Rattle.bmc_history.specs.Replay.{calls_of}
+use Rattle.bmc_shared.specs.declared.event.Event.{Event}
+use Rattle.bmc_shared.specs.declared.event.Call.{Call}
+use Rattle.bmc_shared.specs.Replay.{calls_of}
 use Rattle.bmc_ports.specs.declared.agenda.Agenda.{Agenda}
 use Rattle.bmc_ports.specs.declared.lane.Lanes.{Lanes}
 use Rattle.bmc_ports.specs.declared.timetable.Timed.{Timed}

@@ -10,8 +10,8 @@ use Rattle.std.specs.List.{AllZip}
 use Rattle.std.specs.Option.{unwrap_or}
 use Rattle.std.specs.Borrow.{Bor}
 use Rattle.bmc_ports.specs.declared.timetable.Timed.{Timed}
-use Rattle.text_schedule.specs.Text.{words_of}
-use Rattle.text_schedule.specs.Schedule.{is_skipped, spoken}
+use Rattle.text_lines.specs.ScheduleText.{words_of}
+use Rattle.text_lines.specs.Schedule.{is_skipped, spoken}
 use Rattle.app_serve.specs.ReadingsLine.{IsReadingLine}
 use Rattle.app_serve.specs.ReadingsText.{NeverFalls, AreReadingLines, IsFirstBadOf}
 use Rattle.app_serve.proofs.ReadingsOnce.{one_timed}

@@ -6,23 +6,23 @@ use Rattle.cfg_records.specs.declared.board_file.BoardFile.{BoardFile}
 use Rattle.two_wire.specs.declared.Bus.TheVariants as bus
 use Rattle.bmc_board.specs.State.{State, state_of, opened}
 use Rattle.wire_links.specs.declared.link.Link.{Ghosts}
-use Rattle.bmc_history.specs.declared.event.Call.{Call}
-use Rattle.bmc_history.specs.declared.event.Event.{Event}
-use Rattle.bmc_history.specs.Replay.{calls_of}
+use Rattle.bmc_shared.specs.declared.event.Call.{Call}
+use Rattle.bmc_shared.specs.declared.event.Event.{Event}
+use Rattle.bmc_shared.specs.Replay.{calls_of}
 use Rattle.bmc_ports.specs.declared.timetable.Timed.{Timed}
 use Rattle.bmc_ports.specs.declared.agenda.Agenda.{Agenda}
 use Rattle.bmc_ports.specs.Timing.{GainsCalls}
 use Rattle.bmc_ports.specs.declared.lane.Lanes.{Lanes}
 use Rattle.text_lines.specs.Cuts.{ended}
 use Rattle.cfg_records.specs.Changed.{changed_in}
-use Rattle.changed_words.specs.Changes.{IsListOf, listed}
+use Rattle.report_words.specs.Changes.{IsListOf, listed}
 use Rattle.app_base.specs.declared.console.Console.{Console}
 use Rattle.app_base.specs.declared.report.Report.{Report}
 use Rattle.app_base.specs.declared.console.Stream.{Stream}
 use Rattle.app_base.specs.declared.console.Stream.TheVariants.{Output, Error}
 use Rattle.app_base.specs.declared.status.Status.{Status}
 use Rattle.app_base.specs.declared.status.Status.TheVariants.{Stopped}
-use Rattle.app_strict.specs.Refusals.{RefusedIf}
+use Rattle.app_base.specs.Refusals.{RefusedIf}
 use Rattle.app_base.specs.declared.ending.ReportFault.{ReportFault}
 use Rattle.app_base.specs.declared.ending.ReportFault.TheVariants as untold
 use Rattle.app_base.specs.Ending.{RunEnds, SaysReport, ReportTells}

@@ -4,8 +4,8 @@ use Rattle.std.specs.List.{flat_map, sum_by}
 use Rattle.cfg_records.specs.declared.board_file.BoardFile.{BoardFile}
 use Rattle.bmc_board.specs.State.{State, state_of}
 use Rattle.wire_links.specs.declared.link.Link.{Ghosts}
-use Rattle.bmc_history.specs.declared.event.Event.{Event}
-use Rattle.bmc_history.specs.Replay.{IsReplay, calls_of}
+use Rattle.bmc_shared.specs.declared.event.Event.{Event}
+use Rattle.bmc_shared.specs.Replay.{IsReplay, calls_of}
 use Rattle.bmc_shared.specs.declared.seat.Seats.{Seats}
 use Rattle.bmc_shared.specs.Seated.{SeatMatches, calls_made}
 use Rattle.bmc_shared.specs.declared.worker.End.{End}

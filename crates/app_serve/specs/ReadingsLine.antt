@@ -4,7 +4,7 @@ use Rattle.std.specs.Str.Parse.{IsNumeral, digits_value}
 use Rattle.bmc_board.specs.declared.bench.Bench.{Bench}
 use Rattle.bmc_board.specs.declared.bench.Bench.TheVariants.{Reading, Tick, Chassis}
 use Rattle.bmc_ports.specs.declared.timetable.Timed.{Timed}
-use Rattle.text_schedule.specs.Text.{words_of, IsByte}
+use Rattle.text_lines.specs.ScheduleText.{words_of, IsByte}
 
 -- so many milliseconds, below 2^64, in one decimal digit or more, of which the first may be 0
 pub record IsTime (digits : List ℕ) (milliseconds : ℕ) : Type 0 where

@@ -4,8 +4,8 @@ use Rattle.std.specs.Prelude.{◌≡◌, ◌+◌, ◌<◌, ℕ, List, Vec, Resul
 use Rattle.std.specs.List.{AllZip}
 use Rattle.std.specs.List.Sorted.{IsNonDecreasingBy}
 use Rattle.bmc_ports.specs.declared.timetable.Timed.{Timed}
-use Rattle.text_schedule.specs.Text.{lines_of}
-use Rattle.text_schedule.specs.Schedule.{spoken}
+use Rattle.text_lines.specs.ScheduleText.{lines_of}
+use Rattle.text_lines.specs.Schedule.{spoken}
 use Rattle.app_serve.specs.ReadingsLine.{IsReadingLine}
 use Rattle.app_serve.specs.declared.readings_text.ReadingsFault.{ReadingsFault}
 use Rattle.app_serve.specs.declared.readings_text.ReadingsFault.TheVariants.{Memory, Line}

@@ -20,8 +20,8 @@ use Rattle.app_base.specs.Console.{IsWrittenTo}
 use Rattle.app_base.specs.Ending.{RunEnds, Saying}
 use Rattle.app_base.specs.Files.{FilesGive, FirstUnread, Readings, PrintsRefusal}
 use Rattle.app_base.specs.Report.{board_line}
-use Rattle.app_strict.specs.Refusals.{is_loose_board}
-use Rattle.app_strict.specs.Statuses.{records_status}
+use Rattle.app_base.specs.Refusals.{is_loose_board}
+use Rattle.app_base.specs.Statuses.{records_status}
 use Rattle.app_serve.specs.declared.ends.EndFault.{EndFault}
 use Rattle.app_serve.specs.declared.ends.EndFault.TheVariants as end
 use Rattle.app_serve.specs.declared.inputs.InputFault.{InputFault}

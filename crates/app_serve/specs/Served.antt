@@ -6,14 +6,14 @@ use Rattle.text_lines.specs.Cuts.{ended}
 use Rattle.cfg_records.specs.declared.board_file.BoardFile.{BoardFile}
 use Rattle.cfg_records.specs.Boards.{pairs_of}
 use Rattle.bmc_board.specs.State.{State, state_of, opened}
-use Rattle.bmc_history.specs.declared.event.Event.{Event}
-use Rattle.bmc_history.specs.Replay.{IsReplay, calls_of}
+use Rattle.bmc_shared.specs.declared.event.Event.{Event}
+use Rattle.bmc_shared.specs.Replay.{IsReplay, calls_of}
 use Rattle.bmc_ports.specs.declared.timetable.Timed.{Timed}
 use Rattle.bmc_ports.specs.declared.agenda.Agenda.{Agenda}
 use Rattle.bmc_board.specs.declared.bench.Bench.TheVariants.{Tick}
 use Rattle.bmc_ports.specs.Timing.{GainsCalls}
 use Rattle.cfg_records.specs.Changed.{changed_in}
-use Rattle.changed_words.specs.Changes.{IsListOf, listed}
+use Rattle.report_words.specs.Changes.{IsListOf, listed}
 use Rattle.text_lines.specs.RecordsLine.{records_line}
 use Rattle.app_serve.specs.declared.board.ClosedBoard.{ClosedBoard}
 use Rattle.app_serve.specs.declared.tally.ListedBoard.{ListedBoard}

@@ -6,9 +6,9 @@ use Rattle.two_wire.specs.declared.Bus.TheVariants as bus
 use Rattle.bmc_core.specs.declared.port.Port.{Port}
 use Rattle.bmc_core.specs.Port.{bus_of}
 use Rattle.bmc_lab.specs.Run.{IsFreshPort}
-use Rattle.bmc_history.specs.declared.event.Call.{Call}
-use Rattle.bmc_history.specs.declared.event.Event.{Event}
-use Rattle.bmc_history.specs.Replay.{calls_of}
+use Rattle.bmc_shared.specs.declared.event.Call.{Call}
+use Rattle.bmc_shared.specs.declared.event.Event.{Event}
+use Rattle.bmc_shared.specs.Replay.{calls_of}
 use Rattle.bmc_shared.specs.declared.worker.End.{End}
 use Rattle.bmc_shared.specs.Serving.{TakesHeard}
 use Rattle.bmc_ports.specs.declared.lane.Lane.{Lane}

@@ -7,7 +7,7 @@ ghost use Rattle.two_wire.specs.declared.Bus.TheVariants as bus;
 ghost use Rattle.bmc_board.specs.State.{state_of};
 ghost use Rattle.bmc_lab.specs.Run.{IsFreshPort};
 ghost use Rattle.cfg_records.specs.Changed.{changed_in};
-ghost use Rattle.changed_words.specs.Changes.{IsListOf, listed};
+ghost use Rattle.report_words.specs.Changes.{IsListOf, listed};
 ghost use Rattle.app_serve.specs.Served.{IsListedBoard};
 ghost use Rattle.app_serve.specs.Turns.{IsFreshLane};
 

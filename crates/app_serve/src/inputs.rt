@@ -2,15 +2,14 @@
 ghost use Rattle.std.specs.Prelude.{◌∷◌, ℕ, List, Option, IfOk, IfErr, Err, option_map, string_bytes};
 ghost use Rattle.app_base.specs.Ending.{ReportTells};
 ghost use Rattle.app_base.specs.Files.{FilesGive, FirstUnread};
-ghost use Rattle.app_strict.specs.Refusals.{RefusedIf};
+ghost use Rattle.app_base.specs.Refusals.{RefusedIf};
 ghost use Rattle.app_serve.specs.declared.run.ServeWords.{ServeWords as AnyWords};
 ghost use Rattle.app_serve.specs.Run.{AreInputs, AreServable, SaysUnserved, files_of, is_refused_strictly, texts_in};
 
 use crate::readings::{list_of, readings_refusal};
 use crate::readings_text::ReadingsFault;
 use crate::run::ServeWords;
-use app_base::{ReadFault, Report, ReportFault, TextFiles, text_of};
-use app_strict::{NamedText, board_refusal};
+use app_base::{NamedText, ReadFault, Report, ReportFault, TextFiles, board_refusal, text_of};
 use bmc_ports::Timed;
 use cfg_records::BoardFile;
 use std::alloc::{AllocError, Global};

@@ -1,13 +1,12 @@
 //! The lines of a text of readings.
 ghost use Rattle.std.specs.Prelude.{◌∷◌, [], map, IfOk};
-ghost use Rattle.text_schedule.specs.Reads.{FindsOne};
+ghost use Rattle.text_lines.specs.Reads.{FindsOne};
 ghost use Rattle.app_serve.specs.ReadingsLine.{IsTime, AreWordsOf, SayTimed, IsReadingLine};
 
 use bmc_board::Bench;
 use bmc_ports::Timed;
 use std::alloc::{AllocError, Global};
-use text_lines::byte;
-use text_schedule::words;
+use text_lines::{byte, words};
 use two_wire::Below;
 
 /// The first number that has another bit set than bits 4:0.

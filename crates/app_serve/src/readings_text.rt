@@ -1,13 +1,13 @@
 //! Texts of readings.
 ghost use Rattle.std.specs.Prelude.{◌≡◌, ◌++◌, ◌∷◌, [], ◌↔◌, IsTrue, map};
-ghost use Rattle.text_schedule.specs.Schedule.{is_skipped};
+ghost use Rattle.text_lines.specs.Schedule.{is_skipped};
 ghost use Rattle.app_serve.specs.ReadingsText.{LinesAreRead, TextIsRead, NeverFalls};
 
 use crate::readings_line::read_line;
 use bmc_ports::Timed;
 use std::alloc::Global;
 use std::fmt;
-use text_schedule::lines;
+use text_lines::lines;
 
 /// Why a text is no text of readings.
 #[derive(Clone, Copy, Debug, PartialEq, Eq)]

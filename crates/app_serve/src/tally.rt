@@ -7,16 +7,15 @@ ghost use Rattle.cfg_records.specs.Boards.{pairs_of};
 ghost use Rattle.bmc_board.specs.State.{state_of, opened};
 ghost use Rattle.app_base.specs.declared.console.Stream.TheVariants.{Output};
 ghost use Rattle.cfg_records.specs.Changed.{changed_in};
-ghost use Rattle.changed_words.specs.Changes.{IsListOf, listed};
+ghost use Rattle.report_words.specs.Changes.{IsListOf, listed};
 ghost use Rattle.app_serve.specs.Run.{end_status};
 ghost use Rattle.app_serve.specs.Served.{IsListedBoard, most_events, text_of};
 
 use crate::board::{ClosedBoard, MOST_EVENTS};
-use app_base::{Report, Status};
-use app_strict::records_status;
+use app_base::{Report, Status, records_status};
 use bmc_board::{Board, Records};
 use cfg_records::{BoardFile, Key, StartValue, changed_count};
-use changed_words::ChangeList;
+use report_words::ChangeList;
 use std::alloc::{AllocError, Global};
 use text_lines::push_records;
 

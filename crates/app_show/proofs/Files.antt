@@ -4,7 +4,7 @@ use Rattle.std.proofs.Common.{◌≡◌, ◌∙◌, ◌+◌, ◌<◌, ◌++◌, 
 use Rattle.std.proofs.lemmas.List.{append-nil, take_more}
 use Rattle.std.specs.declared.alloc.Global.{Global}
 use Rattle.record_base.specs.declared.op.Op.{Op}
-use Rattle.plan_text.specs.Kept.{IsPlanText}
+use Rattle.shown_records.specs.KeptText.{IsPlanText}
 use Rattle.app_journal.specs.declared.files.WritesFiles.{Ghosts}
 use Rattle.app_journal.specs.declared.undo_files.UndoFiles.{UndoFiles}
 use Rattle.app_journal.specs.Beside.{IsOwn, PutsPart}

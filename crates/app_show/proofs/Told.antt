@@ -12,7 +12,7 @@ use Rattle.undo_look.specs.declared.looker.Seen.TheVariants.{Shown, Refused as I
 use Rattle.undo_look.specs.declared.stage.Stage.{Stage}
 use Rattle.undo_look.specs.declared.stage.Stage.TheVariants as stage
 use Rattle.undo_look.specs.Looks.{IsSeen}
-use Rattle.look_links.specs.declared.driver.LookEnd.{LookEnd}
+use Rattle.app_look.specs.declared.look_driver.LookEnd.{LookEnd}
 use Rattle.app_look.specs.declared.session.Session.{Session}
 use Rattle.app_look.specs.Findings.{bus_at}
 use Rattle.app_look.specs.Looking.{LooksAt}

@@ -2,9 +2,9 @@
 use Rattle.std.specs.Prelude.{◌≡◌, ◌⊎◌, ℕ, List, [], ◌∷◌, ◌++◌, Ok, Err}
 use Rattle.record_base.specs.declared.key.Key.{Key}
 use Rattle.record_base.specs.declared.op.Op.{Op}
-use Rattle.shown_after.specs.declared.as_it_is.Unsaid.{Unsaid}
-use Rattle.shown_after.specs.AsItIs.{as_it_is}
-use Rattle.plan_text.specs.Kept.{IsPlanText}
+use Rattle.shown_records.specs.declared.as_it_is.Unsaid.{Unsaid}
+use Rattle.shown_records.specs.AsItIs.{as_it_is}
+use Rattle.shown_records.specs.KeptText.{IsPlanText}
 use Rattle.app_show.specs.declared.backup.Backup.{Backup}
 use Rattle.app_show.specs.declared.backup.Why.{Why}
 use Rattle.app_show.specs.declared.backup.Why.TheVariants.{Unsaid as NoOp, Unwritten}

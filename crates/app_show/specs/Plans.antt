@@ -2,7 +2,7 @@
 use Rattle.std.specs.Prelude.{ℕ, List, [], ◌∷◌, ◌++◌, String, string_bytes}
 use Rattle.std.specs.declared.alloc.Global.{Global}
 use Rattle.record_base.specs.declared.op.Op.{Op}
-use Rattle.plan_text.specs.Kept.{IsPlanText}
+use Rattle.shown_records.specs.KeptText.{IsPlanText}
 use Rattle.app_show.specs.declared.backup.Backup.{Backup}
 
 -- the steps of each plan of a backup

@@ -2,9 +2,8 @@
 ghost use Rattle.std.specs.Prelude.{◌≡◌, [], OnErr, OnOk};
 ghost use Rattle.app_show.specs.Backup.{AddsRemark, AddsStep, Says, Takes, has_none, steps_of};
 
-use plan_text::is_sayable;
 use record_base::{Key, Op};
-use shown_after::{Unsaid, op_as_it_is};
+use shown_records::{Unsaid, is_sayable, op_as_it_is};
 use std::alloc::{AllocError, Global};
 use std::mem::replace;
 use two_wire::Code;

@@ -5,7 +5,7 @@ use app_apply::Reach;
 use app_apply::sentences::{push_code, push_unanswered};
 use app_run::Unanswered;
 use record_words::RecordName;
-use shown_after::Unsaid;
+use shown_records::Unsaid;
 use std::alloc::{AllocError, Global};
 
 /// Which plan of how many, from 1 on.

@@ -1,11 +1,11 @@
 //! The texts of a backup's plans.
 ghost use Rattle.std.specs.Prelude.{◌≡◌, IfOk, IfSome, string_bytes};
-ghost use Rattle.plan_text.specs.Kept.{IsPlanText};
+ghost use Rattle.shown_records.specs.KeptText.{IsPlanText};
 ghost use Rattle.app_show.specs.Plans.{ArePlans, all_of, plans_of};
 
 use crate::backup::{Backup, Remark};
 use crate::texts::{Part, front_text, remarks_text};
-use plan_text::write_plan;
+use shown_records::write_plan;
 use std::alloc::{AllocError, Global};
 use undo_plans::Steps;
 

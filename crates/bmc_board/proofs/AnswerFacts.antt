@@ -19,11 +19,11 @@ use Rattle.record_kinds.specs.SeriesLaws.{first_short}
 use Rattle.record_kinds.specs.Sound.{AreSoundRecords, IsSoundAt}
 use Rattle.record_kinds.specs.SoundLaws.{sound_set, sound_with}
 use Rattle.record_base.specs.declared.bios_attribute.SetBiosAttribute.{SetBiosAttribute}
-use Rattle.board_records.specs.Stagings.{start_outcome, add_outcome, end_outcome}
-use Rattle.board_records.specs.declared.set_part.SetPart.{SetPart}
-use Rattle.board_records.specs.declared.set_part.SetPart.TheVariants.{Start, Middle, End}
-pub use Rattle.board_records.proofs.LimitsOf.{limits_are_of}
-use Rattle.board_records.proofs.Written.{IsWritten, written}
+use Rattle.record_kinds.specs.Stagings.{start_outcome, add_outcome, end_outcome}
+use Rattle.record_kinds.specs.declared.set_part.SetPart.{SetPart}
+use Rattle.record_kinds.specs.declared.set_part.SetPart.TheVariants.{Start, Middle, End}
+pub use Rattle.record_kinds.proofs.LimitsOf.{limits_are_of}
+use Rattle.record_kinds.proofs.Written.{IsWritten, written}
 use Rattle.bmc_board.specs.Request.{Request}
 use Rattle.bmc_board.specs.Request.{Live, Get, Set, SetStores, PartOfSet, LaterPart}
 use Rattle.record_base.specs.declared.channel.SetChannelAccess.{SetChannelAccess}

@@ -10,10 +10,10 @@ use Rattle.record_base.specs.Requests.{byte_at}
 use Rattle.bios_attr.specs.BiosAttribute.{attribute_in, start_and_end, get_first_part, get_next_part, transfer_handle}
 use Rattle.bios_attr.specs.declared.bios_attribute.AskedPart.{AskedPart}
 use Rattle.bios_attr.specs.declared.bios_attribute.AskedPart.TheVariants.{First, Later}
-use Rattle.board_records.specs.declared.set_part.SetPart.{SetPart}
-use Rattle.board_records.specs.declared.set_part.SetPart.TheVariants.{Start, Middle, End}
+use Rattle.record_kinds.specs.declared.set_part.SetPart.{SetPart}
+use Rattle.record_kinds.specs.declared.set_part.SetPart.TheVariants.{Start, Middle, End}
 use Rattle.bios_attr.specs.EntryParts.{before_part}
-use Rattle.board_records.specs.PartData.{part_in, least_part, least_start}
+use Rattle.record_kinds.specs.PartData.{part_in, least_part, least_start}
 use Rattle.bmc_board.specs.AttributeCommands.{whole_set, part_set, attribute_set, attribute_shown, attribute_get}
 use Rattle.bmc_board.proofs.Rightly.{is_right}
 

@@ -3,7 +3,7 @@ use Rattle.std.proofs.Common.{◌≡◌, ℕ, List, Option, Some, None, Err, sub
 use Rattle.record_base.specs.declared.op.Op.{Op}
 use Rattle.record_kinds.specs.declared.limits.Limits.{Limits}
 use Rattle.record_kinds.specs.LimitsLaws as laws
-use Rattle.board_records.specs.Sets.{set_outcome}
+use Rattle.record_kinds.specs.Sets.{set_outcome}
 use Rattle.bmc_board.specs.AnyAnswer.{IsCode}
 use Rattle.bmc_board.proofs.LiveFacts.{refusal_code}
 

@@ -11,8 +11,8 @@ use Rattle.cfg_records.specs.declared.board_file.BoardFile.{BoardFile}
 use Rattle.record_kinds.specs.declared.limits.Limits.{Limits}
 use Rattle.record_kinds.specs.Limits.{sets, outcome}
 use Rattle.record_kinds.specs.LimitsLaws as laws
-use Rattle.board_records.specs.declared.set_part.SetPart.TheVariants.{Start, Middle, End}
-use Rattle.board_records.specs.Stagings.{end_outcome}
+use Rattle.record_kinds.specs.declared.set_part.SetPart.TheVariants.{Start, Middle, End}
+use Rattle.record_kinds.specs.Stagings.{end_outcome}
 use Rattle.bmc_board.specs.Request.{Request}
 use Rattle.bmc_board.specs.Request.{Live, Get, Set, SetStores, PartOfSet, LaterPart}
 use Rattle.bmc_board.specs.Request.{asked_by}

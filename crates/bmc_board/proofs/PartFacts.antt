@@ -6,8 +6,8 @@ use Rattle.pldm_base.specs.Parts.{part_length}
 use Rattle.record_base.specs.Meaning.{IsRefusal}
 use Rattle.bios_attr.specs.BiosAttribute.{is_settable}
 use Rattle.bios_attr.specs.declared.bios_attribute.AttributeLimits.{AttributeLimits}
-use Rattle.board_records.specs.Entries.{text_length, whole_length, op_of, begins_string, allows_length, first_fault, middle_fault, last_fault}
-use Rattle.board_records.specs.Stagings.{StagedParts, most_stagings, staged_by, without, or_else, room_fault, start_fault, later_fault, add_fault, end_fault, unless, joined, start_outcome, add_outcome, end_outcome}
+use Rattle.record_kinds.specs.Entries.{text_length, whole_length, op_of, begins_string, allows_length, first_fault, middle_fault, last_fault}
+use Rattle.record_kinds.specs.Stagings.{StagedParts, most_stagings, staged_by, without, or_else, room_fault, start_fault, later_fault, add_fault, end_fault, unless, joined, start_outcome, add_outcome, end_outcome}
 use Rattle.bmc_board.specs.State.{State}
 use Rattle.bmc_board.specs.AttributeParts.{with_stagings, unstaged}
 use Rattle.bmc_board.specs.Answer.{staged}

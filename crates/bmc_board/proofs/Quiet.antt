@@ -10,7 +10,7 @@ use Rattle.user_chan.specs.Passwords.{change_of}
 use Rattle.watch_boot.specs.Watchdog.{was_set}
 use Rattle.cfg_records.specs.Records.{Records}
 use Rattle.record_kinds.specs.Boards.{user_at}
-use Rattle.board_records.specs.Stagings.{StagedParts}
+use Rattle.record_kinds.specs.Stagings.{StagedParts}
 use Rattle.record_base.specs.Meaning.{room_for}
 use Rattle.record_base.specs.declared.message.Answered.{Answered}
 use Rattle.cfg_records.specs.declared.board_file.BoardFile.{BoardFile}

@@ -18,8 +18,8 @@ use Rattle.record_base.specs.declared.bios_attribute.SetBiosAttribute.{SetBiosAt
 use Rattle.record_kinds.specs.Series.{Reads, Sends, next_after}
 use Rattle.bios_attr.specs.BiosAttribute.{op_entry, attribute_body}
 use Rattle.bios_attr.specs.EntryParts.{bios, set_current_value, goes_in_parts, part_at, set_part, is_in_parts, first_request, alone_at, request_at, get_part, goes_on, last_of}
-use Rattle.board_records.specs.declared.set_part.SetPart.{SetPart}
-use Rattle.board_records.specs.declared.set_part.SetPart.TheVariants.{Start, Middle, End}
+use Rattle.record_kinds.specs.declared.set_part.SetPart.{SetPart}
+use Rattle.record_kinds.specs.declared.set_part.SetPart.TheVariants.{Start, Middle, End}
 use Rattle.bmc_board.specs.AttributeCommands.{part_set}
 use Rattle.bmc_board.specs.Request.{Request, PartOfSet, LaterPart, asked_by}
 use Rattle.bmc_board.specs.Decode.{sent_by, IsFromNobody}

@@ -8,7 +8,7 @@ use Rattle.cfg_records.specs.declared.board_file.BoardFile.{BoardFile}
 use Rattle.record_kinds.specs.declared.limits.Limits.{Limits}
 use Rattle.record_kinds.specs.Limits.{key_of, limits_at}
 use Rattle.record_kinds.specs.LimitsLaws as laws
-use Rattle.board_records.specs.Sets.{set_outcome}
+use Rattle.record_kinds.specs.Sets.{set_outcome}
 use Rattle.bmc_board.specs.State.{State}
 use Rattle.bmc_board.specs.Replies.{unknown_code}
 use Rattle.bmc_board.specs.Answer.{outcome_at, both_given}

@@ -13,11 +13,11 @@ use Rattle.cfg_records.specs.declared.board_file.BoardFile.{BoardFile}
 use Rattle.record_kinds.specs.declared.limits.Limits.{Limits}
 use Rattle.record_kinds.specs.Limits.{view, next_live}
 use Rattle.record_kinds.specs.Series.{first_shown}
-use Rattle.board_records.specs.declared.set_part.SetPart.{SetPart}
-use Rattle.board_records.specs.declared.set_part.SetPart.TheVariants.{Start, Middle, End}
-use Rattle.board_records.specs.Stagings.{after_part, start_outcome, add_outcome, end_outcome}
-use Rattle.board_records.specs.Sets.{set_outcome, outcome_among, set_given, records_set, live_set, both_answered, both_set}
-use Rattle.board_records.specs.SetParts.{staged_answer}
+use Rattle.record_kinds.specs.declared.set_part.SetPart.{SetPart}
+use Rattle.record_kinds.specs.declared.set_part.SetPart.TheVariants.{Start, Middle, End}
+use Rattle.record_kinds.specs.Stagings.{after_part, start_outcome, add_outcome, end_outcome}
+use Rattle.record_kinds.specs.Sets.{set_outcome, outcome_among, set_given, records_set, live_set, both_answered, both_set}
+use Rattle.record_kinds.specs.SetParts.{staged_answer}
 use Rattle.bmc_board.specs.declared.activity.Activity.{Activity}
 use Rattle.bmc_board.specs.Request.{Request}
 use Rattle.bmc_board.specs.Request.{Live, Get, Set, SetStores, PartOfSet, LaterPart}

@@ -3,7 +3,7 @@ use Rattle.std.specs.Prelude.{ℕ, List}
 use Rattle.record_base.specs.declared.key.Key.{Key}
 use Rattle.record_base.specs.declared.op.Op.{Op}
 use Rattle.record_base.specs.declared.channel.SetChannelAccess.{SetChannelAccess}
-use Rattle.board_records.specs.declared.set_part.SetPart.{SetPart}
+use Rattle.record_kinds.specs.declared.set_part.SetPart.{SetPart}
 use Rattle.bmc_board.specs.declared.live.LiveCommand.{LiveCommand}
 
 -- to carry out a live command with its data, to show a record, to change one, or to change the access of a channel in one store and its limit in

@@ -7,8 +7,8 @@ use Rattle.record_base.specs.declared.bios_attribute.SetBiosAttribute.{SetBiosAt
 use Rattle.bios_attr.specs.BiosAttribute.{attribute_in, attribute_shown_in, start_and_end}
 use Rattle.bios_attr.specs.declared.bios_attribute.AskedPart.{AskedPart}
 use Rattle.bios_attr.specs.declared.bios_attribute.AskedPart.TheVariants.{First, Later}
-use Rattle.board_records.specs.declared.set_part.SetPart.{SetPart}
-use Rattle.board_records.specs.PartData.{part_in}
+use Rattle.record_kinds.specs.declared.set_part.SetPart.{SetPart}
+use Rattle.record_kinds.specs.PartData.{part_in}
 use Rattle.bmc_board.specs.Asks.{Request}
 use Rattle.bmc_board.specs.Asks.{Get, Set, PartOfSet, LaterPart}
 

@@ -7,10 +7,10 @@ use Rattle.record_base.specs.declared.live.Live.{Live as LivePart}
 use Rattle.record_base.specs.declared.message.Answered.{Answered}
 use Rattle.bios_attr.specs.BiosAttribute.{get_next_part}
 use Rattle.bios_attr.specs.EntryParts.{before_part}
-use Rattle.board_records.specs.Stagings.{StagedParts, without}
+use Rattle.record_kinds.specs.Stagings.{StagedParts, without}
 use Rattle.record_kinds.specs.declared.limits.Limits.{Limits}
 use Rattle.record_kinds.specs.Limits.{view}
-pub use Rattle.board_records.specs.SetParts.{named_in, limits_named}
+pub use Rattle.record_kinds.specs.SetParts.{named_in, limits_named}
 use Rattle.bmc_board.specs.State.{State}
 use Rattle.bmc_board.specs.Replies.{refused}
 use Rattle.bmc_board.specs.BiosTables.{part_answer}

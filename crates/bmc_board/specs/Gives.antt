@@ -1,2 +1,2 @@
 -- What a call that appends a reply's data gives.
-pub use Rattle.board_records.specs.Gives.{GivesReply, AppendsReply, AnswersCode}
+pub use Rattle.record_kinds.specs.Gives.{GivesReply, AppendsReply, AnswersCode}

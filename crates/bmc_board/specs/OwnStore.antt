@@ -1,7 +1,7 @@
 -- The store that a controller's board keeps its records in. Contracts above name it so, and no store by its own name.
 use Rattle.cfg_records.specs.Records.{Records}
-use Rattle.packed_store.specs.declared.store.PackedStore.{PackedStore}
-use Rattle.packed_store.specs.contracts.store.PackedStoreStore.TheImpl as own
+use Rattle.cfg_records.specs.declared.packed_store.PackedStore.{PackedStore}
+use Rattle.cfg_records.specs.contracts.packed_store.PackedStoreStore.TheImpl as own
 
 -- its type
 abbrev pub OwnStore : Type 0

@@ -1,2 +1,2 @@
 -- Replies.
-pub use Rattle.board_records.specs.Replies.{done, refused, sessionless_channel, unknown_code}
+pub use Rattle.record_kinds.specs.Replies.{done, refused, sessionless_channel, unknown_code}

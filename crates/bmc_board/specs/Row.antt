@@ -10,8 +10,8 @@ use Rattle.record_base.specs.declared.message.Answered.{Answered}
 use Rattle.cfg_records.specs.declared.board_file.BoardFile.{BoardFile}
 use Rattle.record_kinds.specs.declared.limits.Limits.{Limits}
 use Rattle.record_kinds.specs.Limits.{sets, outcome, set_reply}
-use Rattle.board_records.specs.declared.set_part.SetPart.TheVariants.{End}
-use Rattle.board_records.specs.Stagings.{end_outcome}
+use Rattle.record_kinds.specs.declared.set_part.SetPart.TheVariants.{End}
+use Rattle.record_kinds.specs.Stagings.{end_outcome}
 use Rattle.bmc_board.specs.Request.{Request}
 use Rattle.bmc_board.specs.Request.{Set, PartOfSet}
 use Rattle.bmc_board.specs.Request.{asked_by}

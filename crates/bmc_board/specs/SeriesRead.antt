@@ -6,8 +6,8 @@ use Rattle.record_base.specs.declared.message.Asked.{Asked}
 use Rattle.record_kinds.specs.Limits.{set_asked}
 use Rattle.record_kinds.specs.Series.{Series, Reads, Sends, set_whole, first_of, next_after}
 use Rattle.bios_attr.specs.EntryParts.{is_in_parts, entry_of, first_request, request_at, get_part}
-use Rattle.board_records.specs.declared.set_part.SetPart.{SetPart}
-use Rattle.board_records.specs.declared.set_part.SetPart.TheVariants.{Start, Middle, End}
+use Rattle.record_kinds.specs.declared.set_part.SetPart.{SetPart}
+use Rattle.record_kinds.specs.declared.set_part.SetPart.TheVariants.{Start, Middle, End}
 use Rattle.bmc_board.specs.Request.{PartOfSet, LaterPart, asked_by}
 use Rattle.bmc_board.specs.Decode.{sent_by, IsFromNobody, AsksRequest}
 

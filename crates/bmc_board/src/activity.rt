@@ -2,8 +2,8 @@
 ghost use Rattle.std.specs.Prelude.{◌≡◌, IfOk};
 ghost use Rattle.bmc_board.specs.State.{opening};
 
-use board_records::Stagings;
 use cfg_records::{BoardFile, Live};
+use record_kinds::Stagings;
 use sel_log::Sel;
 use sensor_recs::{Readings, Sdr};
 use std::alloc::{AllocError, Global};

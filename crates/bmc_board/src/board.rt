@@ -14,10 +14,9 @@ mod serve;
 
 use crate::activity::Activity;
 use bios_attr::Tables;
-use board_records::KeptRecords;
 use cfg_records::Store;
 pub use opening::Records;
-use record_kinds::Setup;
+use record_kinds::{KeptRecords, Setup};
 
 /// Whether the table of values that a board keeps is that of the values as they stand. A record that is written makes it stale.
 #[derive(Clone, Copy, PartialEq, Eq)]

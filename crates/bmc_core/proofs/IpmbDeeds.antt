@@ -8,10 +8,10 @@ use Rattle.two_wire.specs.declared.Bus.TheVariants.{Ipmb}
 use Rattle.model_bus.specs.Numbering.{is_above}
 use Rattle.model_bus.specs.Carried.{Outcome, Repeats, IsBusy, IsNew, log_after, reply_after}
 use Rattle.bmc_board.specs.State.{State}
-use Rattle.model_ports.specs.Bytes.{heard_in}
-use Rattle.model_ports.specs.PortSteps.{PortState, StepResult, Turn, spelled, asked_in, response_after, hears_request}
-use Rattle.model_ports.specs.Values.{Value, written}
-use Rattle.model_ports.proofs.Turning.{turns_by}
+use Rattle.bmc_core.specs.Bytes.{heard_in}
+use Rattle.bmc_core.specs.PortSteps.{PortState, StepResult, Turn, spelled, asked_in, response_after, hears_request}
+use Rattle.bmc_core.specs.Values.{Value, written}
+use Rattle.bmc_core.proofs.Turning.{turns_by}
 use Rattle.bmc_core.specs.declared.out.Out.{Out}
 use Rattle.bmc_core.specs.declared.out.Reason.{Reason}
 use Rattle.bmc_core.specs.declared.step.Step.TheVariants as step

@@ -9,13 +9,13 @@ use Rattle.ipmb_frame.specs.declared.message.Request.{Request}
 use Rattle.ipmb_frame.specs.declared.message.Response.{Response}
 use Rattle.ipmb_frame.specs.Grammar.{packed, request_bytes, request_head, request_tail, response_connection, response_lead, response_head, response_tail, frame, IsRequest, IsResponse}
 use Rattle.record_base.specs.declared.message.Answered.{Answered}
-use Rattle.model_ports.specs.Bytes.{heard_in}
+use Rattle.bmc_core.specs.Bytes.{heard_in}
 use Rattle.model_bus.specs.Request.{Request as Asking, Kept, Entry, Carried}
 use Rattle.model_bus.specs.Numbering.{is_above}
 use Rattle.model_bus.specs.Carried.{IsNew, outcome}
-use Rattle.bmc_windows.specs.declared.request.Request.{Request as Heard}
-use Rattle.bmc_windows.specs.Keeps.{Reading, HeldWindows, WindowsKeep}
-use Rattle.bmc_windows.specs.Heard.{request_of, kept_of as kept_as}
+use Rattle.bmc_core.specs.declared.window_request.WindowRequest.{WindowRequest as Heard}
+use Rattle.bmc_core.specs.Keeps.{Reading, HeldWindows, WindowsKeep}
+use Rattle.bmc_core.specs.Heard.{request_of, kept_of as kept_as}
 use Rattle.bmc_core.specs.IpmbShown.{reading, whole, response, response_giving, kept_of, KeepsAnswer}
 
 -- all but the last byte

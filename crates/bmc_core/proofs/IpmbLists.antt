@@ -7,8 +7,8 @@ use Rattle.model_bus.specs.Numbering.{is_above}
 use Rattle.model_bus.specs.Carried.{Outcome, Repeats, IsBusy, IsNew, log_after, reply_after, outcomes}
 use Rattle.bmc_board.specs.State.{State}
 use Rattle.bmc_board.specs.Answer.{answer_of}
-use Rattle.model_ports.specs.Values.{written}
-use Rattle.model_ports.specs.PortSteps.{PortState, StepResult, left_by, asked_in, response_after, hears_request, turn}
+use Rattle.bmc_core.specs.Values.{written}
+use Rattle.bmc_core.specs.PortSteps.{PortState, StepResult, left_by, asked_in, response_after, hears_request, turn}
 use Rattle.bmc_core.specs.Rule.{logs_with, replies}
 use Rattle.bmc_core.specs.IpmbShown.{outcome_at, kept_of}
 use Rattle.bmc_core.specs.IpmbRuns.{IsHeardThenAnswered, Arrival, Comes, Answers, IsIdle, port_after, ports_after, brought, done_with_answered, ReplyMade, response_of, settled_then, replied, sent_when_heard, all_sent, KeepsTheRule, PortEvent, Hears, Idles, Others, PortAndBoard, ends_after, all_after, heard_in_all, done_in_all, requests_in, responses, sent_in_all, CarriesTheRule}

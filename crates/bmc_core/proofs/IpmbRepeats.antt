@@ -10,9 +10,9 @@ use Rattle.model_bus.specs.Numbering.{is_above}
 use Rattle.model_bus.specs.Carried.{Repeats, outcome}
 use Rattle.model_bus.proofs.Sentence.{sentence_64}
 use Rattle.two_wire.specs.declared.Bus.TheVariants.{Ipmb}
-use Rattle.model_ports.specs.Bytes.{heard_in}
-use Rattle.model_ports.specs.Values.{written}
-use Rattle.model_ports.specs.PortSteps.{response_after}
+use Rattle.bmc_core.specs.Bytes.{heard_in}
+use Rattle.bmc_core.specs.Values.{written}
+use Rattle.bmc_core.specs.PortSteps.{response_after}
 use Rattle.bmc_core.specs.Outs.{ReadBack}
 use Rattle.bmc_core.proofs.OwnBytes.{response_read}
 use Rattle.bmc_core.specs.IpmbShown.{reading, HasUnits, IsKeptResponse, AllAnswered, response}

@@ -9,8 +9,8 @@ use Rattle.bmc_board.specs.State.{State, state_of}
 use Rattle.bmc_board.specs.Answer.{AnswerAndState}
 use Rattle.bmc_board.specs.Serves.{given_by}
 use Rattle.bmc_board.specs.Carrying.{IsOneAnswer}
-use Rattle.bmc_windows.specs.Keeps.{HeldWindows}
-use Rattle.model_ports.specs.PortSteps.{PortState, asked_in}
+use Rattle.bmc_core.specs.Keeps.{HeldWindows}
+use Rattle.bmc_core.specs.PortSteps.{PortState, asked_in}
 use Rattle.bmc_core.specs.declared.out.Out.{Out}
 use Rattle.bmc_core.specs.declared.out.Reason.{Reason}
 use Rattle.bmc_core.specs.declared.step.ServeOutcome.{ServeOutcome}

@@ -9,8 +9,8 @@ use Rattle.mctp_net.specs.declared.packet.Packet.{Packet}
 use Rattle.mctp_net.specs.declared.message.Message.{Message}
 use Rattle.mctp_net.specs.Cut.{IsCutOf, AreWritten}
 use Rattle.mctp_net.proofs.OneCut.{cut-one}
-use Rattle.model_ports.specs.Values.{Tells, Part, written, parts_of, IsFrameOn}
-use Rattle.model_ports.proofs.Parts.{parts_are_cuts}
+use Rattle.bmc_core.specs.Values.{Tells, Part, written, parts_of, IsFrameOn}
+use Rattle.bmc_core.proofs.Parts.{parts_are_cuts}
 use Rattle.bmc_core.specs.Outs.{ReadBack}
 
 -- where nothing is sent

@@ -6,7 +6,7 @@ use Rattle.cfg_records.specs.declared.board_file.BoardFile.{BoardFile}
 use Rattle.model_bus.specs.Carried.{Outcome, Repeats, IsBusy, IsNew}
 use Rattle.bmc_board.specs.State.{State}
 use Rattle.bmc_board.specs.Answer.{answer_of}
-use Rattle.model_ports.specs.PortSteps.{PortState, StepResult, left_by, asked_in, hears_request}
+use Rattle.bmc_core.specs.PortSteps.{PortState, StepResult, left_by, asked_in, hears_request}
 use Rattle.bmc_core.specs.declared.out.Out.{Out}
 use Rattle.bmc_core.specs.declared.out.Reason.{Reason}
 use Rattle.bmc_core.specs.declared.out.Reason.TheVariants as reason

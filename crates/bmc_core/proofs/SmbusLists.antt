@@ -10,8 +10,8 @@ use Rattle.model_bus.specs.Numbering.{is_above}
 use Rattle.model_bus.specs.Carried.{Outcome, Repeats, IsBusy, IsNew, Heard as Brought, log_after, reply_after, outcomes}
 use Rattle.bmc_board.specs.State.{State}
 use Rattle.bmc_board.specs.Answer.{answer_of}
-use Rattle.model_ports.specs.Values.{written, Part, parts_of}
-use Rattle.model_ports.specs.PortSteps.{PortState, StepResult, left_by}
+use Rattle.bmc_core.specs.Values.{written, Part, parts_of}
+use Rattle.bmc_core.specs.PortSteps.{PortState, StepResult, left_by}
 use Rattle.bmc_core.specs.SmbusHeard.{InMessage, HeardMessage, Ignored, Waiting, Control, Asks, taken, heard_in, asked_of, asks_of, found, asks, kept_with, asks_effect, effect}
 use Rattle.bmc_core.specs.Rule.{logs_with}
 use Rattle.bmc_core.specs.SmbusRuns.{with_board, IsHeardThenAnswered, Arrival, Comes, Answers, IsIdle, once_heard, port_after, ports_after, brought, done_with_answered, reply_of, reply_saying, all_frames, settled_then, replied_then, replied, sent_once_heard, all_sent, KeepsTheRule, PortEvent, Hears, Idles, Others, PortAndBoard, ends_after, all_after, heard_then, heard_in_all, done_then, done_in_all, answered_then, answered_in_all, sent_in_all, CarriesTheRule}

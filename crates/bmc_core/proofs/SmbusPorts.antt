@@ -20,9 +20,9 @@ use Rattle.model_bus.specs.Carried.{Outcome, Repeats, IsBusy, IsNew}
 use Rattle.model_bus.specs.Request.{Kept, Carried}
 use Rattle.bmc_board.specs.State.{State}
 use Rattle.bmc_board.specs.Answer.{answer_of}
-use Rattle.model_ports.specs.Bytes.{said}
-use Rattle.model_ports.specs.Values.{Value, Part}
-use Rattle.model_ports.specs.PortSteps.{PortState, StepResult, stays, left_by, turn, hears_control, hears_pldm, hears_typed, hears_message, hears_part, ends_message, hears}
+use Rattle.bmc_core.specs.Bytes.{said}
+use Rattle.bmc_core.specs.Values.{Value, Part}
+use Rattle.bmc_core.specs.PortSteps.{PortState, StepResult, stays, left_by, turn, hears_control, hears_pldm, hears_typed, hears_message, hears_part, ends_message, hears}
 use Rattle.bmc_core.specs.declared.out.Out.{Out}
 use Rattle.bmc_core.specs.declared.out.Disposition.TheVariants as done
 use Rattle.bmc_core.specs.declared.out.Reason.TheVariants as reason

@@ -5,7 +5,7 @@ use Rattle.pldm_base.specs.Message.{reply_start}
 use Rattle.record_base.specs.declared.message.Answered.{Answered}
 use Rattle.model_bus.specs.Request.{Request as Asking, Kept, Entry, Carried, Idled, carried_since}
 use Rattle.model_bus.specs.Carried.{Outcome, Repeats, IsBusy, IsNew, kept_for, outcome_of, outcome, is_busy}
-use Rattle.model_ports.specs.PortSteps.{spelled}
+use Rattle.bmc_core.specs.PortSteps.{spelled}
 use Rattle.bmc_core.specs.SmbusHeard.{InMessage, asking}
 use Rattle.bmc_core.specs.SmbusShown.{AreReplies}
 

@@ -11,8 +11,8 @@ use Rattle.bmc_board.specs.State.{State, state_of}
 use Rattle.bmc_board.specs.Answer.{AnswerAndState}
 use Rattle.bmc_board.specs.Serves.{given_by}
 use Rattle.bmc_board.specs.Carrying.{IsOneAnswer}
-use Rattle.bmc_windows.specs.Keeps.{HeldWindows}
-use Rattle.model_ports.specs.PortSteps.{PortState}
+use Rattle.bmc_core.specs.Keeps.{HeldWindows}
+use Rattle.bmc_core.specs.PortSteps.{PortState}
 use Rattle.bmc_core.specs.declared.out.Out.{Out}
 use Rattle.bmc_core.specs.declared.out.Disposition.TheVariants as what
 use Rattle.bmc_core.specs.declared.step.ServeOutcome.{ServeOutcome}

@@ -9,9 +9,9 @@ use Rattle.model_bus.specs.Numbering.{is_above}
 use Rattle.model_bus.specs.Carried.{Outcome, Repeats, IsBusy, IsNew, Heard as Brought, HeardRequest, HeardIdle, outcome, log_with, reply_after, outcomes}
 use Rattle.bmc_board.specs.State.{State}
 use Rattle.bmc_board.specs.Answer.{answer_of}
-use Rattle.model_ports.specs.Bytes.{heard_in}
-use Rattle.model_ports.specs.Values.{written}
-use Rattle.model_ports.specs.PortSteps.{PortState, StepResult, asked_in, response_after, hears_request, idles}
+use Rattle.bmc_core.specs.Bytes.{heard_in}
+use Rattle.bmc_core.specs.Values.{written}
+use Rattle.bmc_core.specs.PortSteps.{PortState, StepResult, asked_in, response_after, hears_request, idles}
 use Rattle.bmc_core.specs.declared.out.Reason.{Reason}
 use Rattle.bmc_core.specs.Outs.{sent}
 use Rattle.bmc_core.specs.Rule.{logs_with, replies}

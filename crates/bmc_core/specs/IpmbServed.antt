@@ -9,8 +9,8 @@ use Rattle.record_base.specs.declared.message.Asked.{Asked}
 use Rattle.record_base.specs.declared.message.Answered.{Answered}
 use Rattle.bmc_board.specs.Gives.{GivesReply}
 use Rattle.bmc_board.specs.declared.carrier.Carrier.{Ghosts}
-use Rattle.bmc_windows.specs.Keeps.{HeldWindows}
-use Rattle.model_ports.specs.PortSteps.{asked_in}
+use Rattle.bmc_core.specs.Keeps.{HeldWindows}
+use Rattle.bmc_core.specs.PortSteps.{asked_in}
 use Rattle.bmc_core.specs.declared.out.Out.{Out}
 use Rattle.bmc_core.specs.declared.step.ServeOutcome.{ServeOutcome}
 use Rattle.bmc_core.specs.declared.ipmb_port.IpmbPort.{IpmbPort}

@@ -13,10 +13,10 @@ use Rattle.two_wire.specs.Circles.{sequence_numbers}
 use Rattle.two_wire.specs.declared.Bus.TheVariants.{Ipmb}
 use Rattle.bmc_board.specs.declared.board.Board.{Board}
 use Rattle.bmc_board.specs.State.{State, state_of}
-use Rattle.bmc_windows.specs.Keeps.{Reading, HeldWindows, WindowsKeep}
-use Rattle.model_ports.specs.Bytes.{heard_in}
-use Rattle.model_ports.specs.Values.{Value, Tells, written}
-use Rattle.model_ports.specs.PortSteps.{PortState, StepResult, stays, spelled, response_after, hears_request}
+use Rattle.bmc_core.specs.Keeps.{Reading, HeldWindows, WindowsKeep}
+use Rattle.bmc_core.specs.Bytes.{heard_in}
+use Rattle.bmc_core.specs.Values.{Value, Tells, written}
+use Rattle.bmc_core.specs.PortSteps.{PortState, StepResult, stays, spelled, response_after, hears_request}
 use Rattle.bmc_core.specs.declared.out.Out.{Out}
 use Rattle.bmc_core.specs.declared.out.Reason.{Reason}
 use Rattle.bmc_core.specs.declared.out.Disposition.{Disposition}

@@ -1,3 +1,15 @@
+pub mod Seen
+pub mod Wires
+pub mod Values
+pub mod Bytes
+pub mod PortSteps
+pub mod Turns
+pub mod Cuts
+pub mod PortEvents
+pub mod Circle
+pub mod Window
+pub mod Keeps
+pub mod Heard
 pub mod Outs
 pub mod Rule
 pub mod IpmbHeard

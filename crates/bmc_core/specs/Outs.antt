@@ -1,7 +1,7 @@
 -- What a port sends and did.
 use Rattle.std.specs.Prelude.{ℕ, List, [], ◌∷◌, All}
 use Rattle.two_wire.specs.declared.Bus.{Bus}
-use Rattle.model_ports.specs.Values.{Value, written, IsFrameOn}
+use Rattle.bmc_core.specs.Values.{Value, written, IsFrameOn}
 use Rattle.model_bus.specs.Carried.{Outcome, Repeats, IsBusy, IsNew}
 use Rattle.bmc_core.specs.declared.out.Frames.{Frames}
 use Rattle.bmc_core.specs.declared.out.Out.{Out}

@@ -9,7 +9,7 @@ use Rattle.bmc_board.specs.declared.board.Board.{Board}
 use Rattle.bmc_board.specs.State.{State, state_of}
 use Rattle.bmc_board.specs.Answer.{answer_of}
 use Rattle.bmc_board.specs.declared.carrier.Carrier.{Ghosts}
-use Rattle.model_ports.specs.PortSteps.{PortState, asked_in}
+use Rattle.bmc_core.specs.PortSteps.{PortState, asked_in}
 use Rattle.bmc_core.specs.declared.out.Out.{Out}
 use Rattle.bmc_core.specs.declared.step.ServeOutcome.{ServeOutcome}
 use Rattle.bmc_core.specs.declared.step.Step.{Step}

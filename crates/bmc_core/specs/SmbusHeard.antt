@@ -17,9 +17,9 @@ use Rattle.model_bus.specs.Bytes.{control_message_type, pldm_message_type}
 use Rattle.model_bus.specs.Request.{Request as Asking, Kept, Entry}
 use Rattle.model_bus.specs.Numbering.{is_above}
 use Rattle.model_bus.specs.Carried.{Outcome, Repeats, IsBusy, IsNew, outcome, log_after, reply_after}
-use Rattle.model_ports.specs.Bytes.{pldm_heard_in, said}
-use Rattle.model_ports.specs.Values.{Value, Part, parts_of}
-use Rattle.model_ports.specs.PortSteps.{PortState, reply_envelope, spelled, pldm_asked}
+use Rattle.bmc_core.specs.Bytes.{pldm_heard_in, said}
+use Rattle.bmc_core.specs.Values.{Value, Part, parts_of}
+use Rattle.bmc_core.specs.PortSteps.{PortState, reply_envelope, spelled, pldm_asked}
 use Rattle.bmc_core.specs.declared.out.Disposition.{Disposition}
 use Rattle.bmc_core.specs.declared.out.Disposition.TheVariants as done
 use Rattle.bmc_core.specs.declared.out.Reason.{Reason}

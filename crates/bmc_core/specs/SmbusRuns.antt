@@ -12,9 +12,9 @@ use Rattle.model_bus.specs.Numbering.{is_above}
 use Rattle.model_bus.specs.Carried.{Outcome, Repeats, IsBusy, IsNew, Heard as Brought, HeardRequest, HeardIdle, reply_after, outcomes}
 use Rattle.bmc_board.specs.State.{State}
 use Rattle.bmc_board.specs.Answer.{answer_of}
-use Rattle.model_ports.specs.Bytes.{said}
-use Rattle.model_ports.specs.Values.{Part, written, parts_of}
-use Rattle.model_ports.specs.PortSteps.{PortState, StepResult, reply_envelope, hears, idles}
+use Rattle.bmc_core.specs.Bytes.{said}
+use Rattle.bmc_core.specs.Values.{Part, written, parts_of}
+use Rattle.bmc_core.specs.PortSteps.{PortState, StepResult, reply_envelope, hears, idles}
 use Rattle.bmc_core.specs.Rule.{logs_with}
 use Rattle.bmc_core.specs.SmbusHeard.{InMessage, HeardMessage, Ignored, Waiting, Control, Asks, taken, heard_in, asking, asked_of, found, asks, kept_with, Effect, effect}
 

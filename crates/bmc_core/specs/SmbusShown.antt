@@ -13,11 +13,11 @@ use Rattle.model_bus.specs.Bytes.{pldm_message_type}
 use Rattle.model_bus.specs.Request.{Kept, Entry, Carried, Idled}
 use Rattle.model_bus.specs.Numbering.{is_above}
 use Rattle.model_bus.specs.Carried.{Outcome, Repeats, IsBusy, IsNew, outcome}
-use Rattle.bmc_windows.specs.Keeps.{Reading, HeldWindows, WindowsKeep}
+use Rattle.bmc_core.specs.Keeps.{Reading, HeldWindows, WindowsKeep}
 use Rattle.bmc_board.specs.declared.board.Board.{Board}
 use Rattle.bmc_board.specs.State.{State, state_of}
-use Rattle.model_ports.specs.Values.{Value, Part, written}
-use Rattle.model_ports.specs.PortSteps.{PortState, StepResult, stays, hears, quiet_port}
+use Rattle.bmc_core.specs.Values.{Value, Part, written}
+use Rattle.bmc_core.specs.PortSteps.{PortState, StepResult, stays, hears, quiet_port}
 use Rattle.bmc_core.specs.declared.out.Out.{Out}
 use Rattle.bmc_core.specs.declared.out.Disposition.{Disposition}
 use Rattle.bmc_core.specs.declared.out.Disposition.TheVariants as done

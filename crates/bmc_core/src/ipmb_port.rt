@@ -2,7 +2,7 @@
 ghost use Rattle.std.specs.Prelude.{◌≡◌, ◌≤◌, ℕ, length, IfOk, IfSome};
 ghost use Rattle.two_wire.specs.Sizes.{most_ipmi_reply_data};
 ghost use Rattle.ipmb_frame.specs.Grammar.{IsRequest};
-ghost use Rattle.model_ports.specs.PortSteps.{PortState, quiet_port, idles};
+ghost use Rattle.bmc_core.specs.PortSteps.{PortState, quiet_port, idles};
 ghost use Rattle.bmc_core.specs.Rule.{has_window};
 ghost use Rattle.bmc_core.specs.IpmbHeard.{IsHeard};
 ghost use Rattle.bmc_core.specs.IpmbShown.{Represents, PortStepOf, IsHeardAt, IsNewRequest, IsNewTo, IsStep, AnswerStep};

@@ -1,7 +1,7 @@
 //! The port of either bus.
 ghost use Rattle.std.specs.Prelude.{◌≡◌, ◌≤◌, IfOk, length};
 ghost use Rattle.record_base.specs.Meaning.{room_for};
-ghost use Rattle.model_ports.specs.PortSteps.{PortState, quiet_port, idles};
+ghost use Rattle.bmc_core.specs.PortSteps.{PortState, quiet_port, idles};
 ghost use Rattle.bmc_core.specs.Rule.{has_window};
 ghost use Rattle.bmc_core.specs.Port.{bus_of, bus_asked, asked_of, Represents, PortStepOf, IsStep, IsOn, AnswerStep, ServesFrame};
 

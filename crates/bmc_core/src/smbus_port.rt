@@ -1,7 +1,7 @@
 //! A port on the System Management Bus, which carries each distinct request out once.
 ghost use Rattle.std.specs.Prelude.{◌≡◌, ◌≤◌, length, IfOk};
 ghost use Rattle.two_wire.specs.Sizes.{most_message_bytes};
-ghost use Rattle.model_ports.specs.PortSteps.{PortState, quiet_port, idles};
+ghost use Rattle.bmc_core.specs.PortSteps.{PortState, quiet_port, idles};
 ghost use Rattle.bmc_core.specs.Rule.{has_window};
 ghost use Rattle.bmc_core.specs.SmbusShown.{Represents, ReadsAt, GivesHeard, AskingStep, AnswerStep, PortStepOf};
 ghost use Rattle.bmc_core.specs.SmbusServed.{ServesFrame};

@@ -7,7 +7,7 @@ use Rattle.bmc_core.specs.declared.port.At.{At}
 use Rattle.bmc_core.specs.declared.port.Port.{Port}
 use Rattle.bmc_board.specs.State.{State, opened}
 use Rattle.bmc_core.specs.Outs.{sent}
-use Rattle.model_ports.specs.PortSteps.{quiet_port}
+use Rattle.bmc_core.specs.PortSteps.{quiet_port}
 use Rattle.bmc_core.specs.Port.{bus_of, Represents, PortStep}
 use Rattle.app_base.specs.declared.report.Report.{Report}
 use Rattle.bmc_lab.specs.Report.{text_of, status_of}

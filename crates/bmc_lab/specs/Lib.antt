@@ -2,3 +2,12 @@ pub mod Asked
 pub mod Report
 pub mod Run
 pub mod Files
+pub mod Request
+pub mod Frames
+pub mod Reply
+pub mod Heard
+pub mod AskRun
+pub mod AskFiles
+pub mod Answers
+pub mod Tries
+pub mod FindingWords

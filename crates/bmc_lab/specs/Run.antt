@@ -9,7 +9,7 @@ use Rattle.bmc_core.specs.declared.port.Port.{Port}
 use Rattle.bmc_board.specs.State.{State, opened}
 use Rattle.bmc_core.specs.Outs.{sent}
 use Rattle.two_wire.specs.Places.{controller_wire, controller_eid}
-use Rattle.model_ports.specs.PortSteps.{quiet_port}
+use Rattle.bmc_core.specs.PortSteps.{quiet_port}
 use Rattle.bmc_core.specs.Port.{bus_of, Represents, PortStep}
 use Rattle.text_board.specs.declared.fault.FileFault.{FileFault}
 use Rattle.text_board.specs.Holds.{ReadsText}

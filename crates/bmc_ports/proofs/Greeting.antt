@@ -7,11 +7,11 @@ use Rattle.wire_links.specs.declared.link.Heard.{Heard}
 use Rattle.wire_links.specs.declared.link.LinkFault.{LinkFault}
 use Rattle.wire_links.specs.declared.link.Link.{Ghosts}
 use Rattle.wire_links.specs.Trace.{Gives, Takes}
-use Rattle.undo_greeting.specs.declared.greeting.Greeting.{Greeting}
-use Rattle.undo_greeting.specs.declared.greeting.Stage.{Stage}
-use Rattle.undo_greeting.specs.declared.greeting.Stage.TheVariants.{AtStart, Opened, Answered}
-use Rattle.undo_greeting.specs.declared.greeting.WrongPhase.{WrongPhase}
-use Rattle.undo_greeting.specs.Greeter.{StepResult, IsStepResult, IsCalled, is_heeded, start_at, again_at, quiet_at}
+use Rattle.undo_plans.specs.declared.greeting.Greeting.{Greeting}
+use Rattle.undo_plans.specs.declared.greeting.GreetingStage.{GreetingStage}
+use Rattle.undo_plans.specs.declared.greeting.GreetingStage.TheVariants.{AtStart, Opened, Answered}
+use Rattle.undo_plans.specs.declared.greeting.WrongStage.{WrongStage}
+use Rattle.undo_plans.specs.Greeter.{StepResult, IsStepResult, IsCalled, is_heeded, start_at, again_at, quiet_at}
 use Rattle.bmc_ports.specs.Greeted.{GreetMoment, GreetCall, Next, Send, Drives, Hears, LeadsByAll, begun_at, moment, or_rests, quieted_at, state, turns_in}
 
 -- ---- the greeting's calls
@@ -22,24 +22,24 @@ called_by old new frame (Some step) is = is
 called_by old new frame None is = absurd is
 
 -- a call was refused
-pub refused_by : (old new : Greeting) (wrong : WrongPhase) (step : Option StepResult) → IsCalled old new (Err wrong) step → IsStepResult new None (or_rests old step)
+pub refused_by : (old new : Greeting) (wrong : WrongStage) (step : Option StepResult) → IsCalled old new (Err wrong) step → IsStepResult new None (or_rests old step)
 refused_by old new wrong (Some step) is = absurd is
 refused_by old new wrong None same = (same, tt)
 
 -- the greeting was begun
-pub begun_by : (old new : Greeting) (frame : Option (List ℕ)) (stage : Stage) → IsCalled old new (Ok frame) (start_at old stage) → IsStepResult new frame (begun_at old stage)
+pub begun_by : (old new : Greeting) (frame : Option (List ℕ)) (stage : GreetingStage) → IsCalled old new (Ok frame) (start_at old stage) → IsStepResult new frame (begun_at old stage)
 begun_by old new frame AtStart is = is
 begun_by old new frame (Opened heeded place) is = absurd is
 begun_by old new frame Answered is = absurd is
 
-again_by : (old new : Greeting) (frame : Option (List ℕ)) (wrong : WrongPhase) (stage : Stage) → IsCalled old old (Err wrong) (start_at old stage)
+again_by : (old new : Greeting) (frame : Option (List ℕ)) (wrong : WrongStage) (stage : GreetingStage) → IsCalled old old (Err wrong) (start_at old stage)
     → IsCalled old new (Ok frame) (again_at old stage) → IsStepResult new frame (begun_at old stage)
 again_by old new frame wrong AtStart begun is = absurd begun
 again_by old new frame wrong (Opened false place) begun is = is
 again_by old new frame wrong (Opened true place) begun is = absurd is
 again_by old new frame wrong Answered begun is = absurd is
 
-on_by : (old new : Greeting) (wrong other : WrongPhase) (stage : Stage) → IsCalled old old (Err wrong) (start_at old stage)
+on_by : (old new : Greeting) (wrong other : WrongStage) (stage : GreetingStage) → IsCalled old old (Err wrong) (start_at old stage)
     → IsCalled old new (Err other) (again_at old stage) → IsStepResult new None (begun_at old stage)
 on_by old new wrong other AtStart begun is = absurd begun
 on_by old new wrong other (Opened false place) begun is = absurd is
@@ -47,13 +47,13 @@ on_by old new wrong other (Opened true place) begun same = (same, tt)
 on_by old new wrong other Answered begun same = (same, tt)
 
 -- a refused call changed nothing
-unchanged : (old mid : Greeting) (wrong : WrongPhase) (stage : Stage) → IsCalled old mid (Err wrong) (start_at old stage) → mid ≡ old
+unchanged : (old mid : Greeting) (wrong : WrongStage) (stage : GreetingStage) → IsCalled old mid (Err wrong) (start_at old stage) → mid ≡ old
 unchanged old mid wrong AtStart is = absurd is
 unchanged old mid wrong (Opened heeded place) same = same
 unchanged old mid wrong Answered same = same
 
 -- it couldn't be begun, and its open request is sent again
-pub sent_again : (old mid new : Greeting) (frame : Option (List ℕ)) (wrong : WrongPhase) → IsCalled old mid (Err wrong) (start_at old old.stage)
+pub sent_again : (old mid new : Greeting) (frame : Option (List ℕ)) (wrong : WrongStage) → IsCalled old mid (Err wrong) (start_at old old.stage)
     → IsCalled mid new (Ok frame) (again_at mid mid.stage) → IsStepResult new frame (begun_at old old.stage)
 sent_again old mid new frame wrong begun is =
     let same = unchanged old mid wrong old.stage begun in
@@ -61,7 +61,7 @@ sent_again old mid new frame wrong begun is =
     (subst (λ (g : Greeting). IsCalled g new (Ok frame) (again_at g g.stage)) same is)
 
 -- nor can that be, and it goes on as it is
-pub goes_on : (old mid new : Greeting) (wrong other : WrongPhase) → IsCalled old mid (Err wrong) (start_at old old.stage)
+pub goes_on : (old mid new : Greeting) (wrong other : WrongStage) → IsCalled old mid (Err wrong) (start_at old old.stage)
     → IsCalled mid new (Err other) (again_at mid mid.stage) → IsStepResult new None (begun_at old old.stage)
 goes_on old mid new wrong other begun is =
     let same = unchanged old mid wrong old.stage begun in
@@ -87,7 +87,7 @@ fewer_by greeting new frame place true less is =
     let more : greeting.resent < greeting.retries = ltb-true _ _ less in
     omega (arith, more, retries, resent)
 
-fewer_at : (greeting new : Greeting) (frame : List ℕ) (stage : Stage) → IsStepResult new (Some frame) (or_rests greeting (quiet_at greeting stage))
+fewer_at : (greeting new : Greeting) (frame : List ℕ) (stage : GreetingStage) → IsStepResult new (Some frame) (or_rests greeting (quiet_at greeting stage))
     → suc (new.retries - new.resent) < suc (greeting.retries - greeting.resent)
 fewer_at greeting new frame AtStart is = absurd is.1
 fewer_at greeting new frame (Opened false place) is = absurd is.1

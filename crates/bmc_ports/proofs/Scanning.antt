@@ -6,7 +6,7 @@ use Rattle.std.proofs.lemmas.Option.{slice_get_within, unwrap_or-slice_get}
 use Rattle.std.specs.List.{AllZip}
 use Rattle.std.specs.Option.{unwrap_or}
 use Rattle.bmc_board.specs.declared.bench.Bench.{Bench}
-use Rattle.bmc_history.specs.declared.event.Call.{Call}
+use Rattle.bmc_shared.specs.declared.event.Call.{Call}
 use Rattle.bmc_ports.specs.Scanning.{BenchCall}
 
 -- one more happened

@@ -8,7 +8,7 @@ use Rattle.std.proofs.lemmas.Bool.Decides.{eqb_tells}
 use Rattle.std.proofs.lemmas.List.{map-id}
 use Rattle.std.proofs.lemmas.List.FromFn.{filter_of_map_range_with_len_more}
 use Rattle.two_wire.specs.declared.Bus.{Bus}
-use Rattle.model_ports.specs.PortSteps.{PortState, idles}
+use Rattle.bmc_core.specs.PortSteps.{PortState, idles}
 use Rattle.bmc_ports.specs.declared.silence.Silence.{Silence}
 use Rattle.bmc_ports.specs.Since.{CountsOn, Hearing, most_turns}
 use Rattle.bmc_ports.specs.Senders.{IsFrom, IsHeardFrom}

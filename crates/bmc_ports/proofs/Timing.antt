@@ -2,7 +2,7 @@
 use Rattle.std.proofs.Common.{◌≡◌, ◌≢◌, ◌+◌, ◌++◌, ◌∙◌, sym, ap, subst, ℕ, List, [], ◌∷◌, length, Bool, Option, Some, arith}
 use Rattle.std.proofs.lemmas.List.{append_assoc, append-nil, length-append}
 use Rattle.bmc_board.specs.declared.bench.Bench.{Bench}
-use Rattle.bmc_history.specs.declared.event.Call.{Call}
+use Rattle.bmc_shared.specs.declared.event.Call.{Call}
 use Rattle.bmc_shared.specs.declared.seat.Seat.{Seat}
 use Rattle.bmc_ports.specs.declared.timetable.Timed.{Timed}
 use Rattle.bmc_ports.specs.declared.timetable.TimedEnd.{TimedEnd}

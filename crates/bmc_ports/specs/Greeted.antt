@@ -6,10 +6,10 @@ use Rattle.wire_links.specs.declared.link.Heard.TheVariants.{Frame, Quiet}
 use Rattle.wire_links.specs.declared.link.LinkFault.{LinkFault}
 use Rattle.wire_links.specs.declared.link.Link.{Ghosts}
 use Rattle.wire_links.specs.Trace.{Sending, Gives, Takes}
-use Rattle.undo_greeting.specs.declared.greeting.Greeting.{Greeting}
-use Rattle.undo_greeting.specs.declared.greeting.Stage.{Stage}
-use Rattle.undo_greeting.specs.declared.greeting.Stage.TheVariants.{AtStart, Opened}
-use Rattle.undo_greeting.specs.Greeter.{StepResult, IsStepResult, IsHeard, IsIgnored, IsToldBusy, begins, is_heeded, is_over, place_after, quiet_at}
+use Rattle.undo_plans.specs.declared.greeting.Greeting.{Greeting}
+use Rattle.undo_plans.specs.declared.greeting.GreetingStage.{GreetingStage}
+use Rattle.undo_plans.specs.declared.greeting.GreetingStage.TheVariants.{AtStart, Opened}
+use Rattle.undo_plans.specs.Greeter.{StepResult, IsStepResult, IsHeard, IsIgnored, IsToldBusy, begins, is_heeded, is_over, place_after, quiet_at}
 use Rattle.bmc_ports.specs.declared.greeter.GreetEnd.{GreetEnd}
 use Rattle.bmc_ports.specs.declared.greeter.GreetEnd.TheVariants as ends
 
@@ -29,7 +29,7 @@ abbrev pub rests : Greeting → StepResult
 rests greeting = record { greeting = greeting; sends = None }
 
 -- It is begun, or its open request that isn't heeded is sent again. Else it goes on as it is.
-abbrev pub begun_at : Greeting → Stage → StepResult
+abbrev pub begun_at : Greeting → GreetingStage → StepResult
 begun_at greeting AtStart = begins greeting (place_after greeting.bus 0)
 begun_at greeting (Opened false place) = begins greeting (Some place)
 begun_at greeting _ = rests greeting

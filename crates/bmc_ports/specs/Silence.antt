@@ -3,7 +3,7 @@ use Rattle.std.specs.Prelude.{◌≡◌, ◌<◌, ◌==◌, ℕ, List, [], ◌�
 use Rattle.std.specs.List.{filter, range_with_len}
 use Rattle.two_wire.specs.declared.Bus.{Bus}
 use Rattle.model_bus.specs.Request.{requester_bytes}
-use Rattle.model_ports.specs.PortSteps.{PortState, idles}
+use Rattle.bmc_core.specs.PortSteps.{PortState, idles}
 use Rattle.bmc_core.specs.declared.port.Port.{Port}
 use Rattle.bmc_core.specs.Port.{Represents}
 use Rattle.bmc_ports.specs.declared.silence.Silence.{Silence}

@@ -1,7 +1,7 @@
 -- What the scanner has happen on a board at times.
 use Rattle.std.specs.Prelude.{◌≡◌, ◌≢◌, ◌↔◌, ◌+◌, ◌++◌, ◌%◌, ℕ, List, [], ◌∷◌, length, Bool, true, false, Option, None, Some, option_map, slice_get}
 use Rattle.bmc_board.specs.declared.bench.Bench.{Bench}
-use Rattle.bmc_history.specs.declared.event.Call.{Call}
+use Rattle.bmc_shared.specs.declared.event.Call.{Call}
 use Rattle.bmc_shared.specs.declared.seat.Seat.{Seat}
 use Rattle.bmc_ports.specs.Scanning.{BenchCall}
 use Rattle.bmc_ports.specs.declared.scanner_play.ScannerLoan.{ScannerLoan}

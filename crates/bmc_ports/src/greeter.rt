@@ -3,11 +3,11 @@ ghost use Rattle.std.specs.Prelude.{◌≡◌, false, None, Result, true};
 ghost use Rattle.wire_links.specs.declared.link.Heard.{Heard as AnyHeard};
 ghost use Rattle.wire_links.specs.declared.link.LinkFault.{LinkFault as AnyFault};
 ghost use Rattle.wire_links.specs.Trace.{Gives};
-ghost use Rattle.undo_greeting.specs.Greeter.{IsStepResult, is_heeded};
+ghost use Rattle.undo_plans.specs.Greeter.{IsStepResult, is_heeded};
 ghost use Rattle.bmc_ports.specs.Greeted.{Drives, GreetsOver, Hears, HearsFrame, SendsNow, TurnsMade, begun_at, end_of, moment, quieted_at, state};
 
 use two_wire::{Bus, Frame};
-use undo_greeting::{Greeting, WrongPhase};
+use undo_plans::{Greeting, WrongStage};
 use wire_links::{Heard, Link};
 
 /// How the driving of a greeting ended.
@@ -50,9 +50,9 @@ fn begin(greeting: &mut Greeting) -> Option<Frame>
 {
     match greeting.start() {
         Ok(first) => first,
-        Err(WrongPhase) => match greeting.again() {
+        Err(WrongStage) => match greeting.again() {
             Ok(sent) => sent,
-            Err(WrongPhase) => None,
+            Err(WrongStage) => None,
         },
     }
 }
@@ -63,7 +63,7 @@ fn be_quiet(greeting: &mut Greeting) -> Option<Frame>
 {
     match greeting.quiet() {
         Ok(sent) => sent,
-        Err(WrongPhase) => None,
+        Err(WrongStage) => None,
     }
 }
 

@@ -1,6 +1,6 @@
 //! How long each requester of a port was silent, and which ones the port forgets by it.
 ghost use Rattle.std.specs.Prelude.{◌≡◌, ◌≢◌, ◌<◌, ◌==◌, ◌+◌, ℕ, [], ◌∷◌, min, if◌then◌else◌};
-ghost use Rattle.model_ports.specs.PortSteps.{PortState, idles};
+ghost use Rattle.bmc_core.specs.PortSteps.{PortState, idles};
 ghost use Rattle.bmc_core.specs.Port.{Represents, bus_of};
 ghost use Rattle.bmc_ports.specs.Since.{most_turns};
 ghost use Rattle.model_bus.specs.Request.{requester_bytes};

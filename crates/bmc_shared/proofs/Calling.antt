@@ -8,10 +8,10 @@ use Rattle.bmc_core.specs.declared.port.Port.{Port}
 use Rattle.bmc_core.specs.declared.step.ServeOutcome.{ServeOutcome}
 use Rattle.bmc_core.specs.declared.step.ServeOutcome.TheVariants.{CarriedOut, NothingAsked}
 use Rattle.bmc_core.specs.Port.{asked_of, ServesFrameBy}
-use Rattle.bmc_history.specs.declared.event.Call.{Call}
-use Rattle.bmc_history.specs.declared.event.Call.TheVariants.{Exchanged}
-use Rattle.bmc_history.specs.declared.held.PeriodFull.{PeriodFull}
-use Rattle.bmc_history.specs.Calls.{KeepsHere}
+use Rattle.bmc_shared.specs.declared.event.Call.{Call}
+use Rattle.bmc_shared.specs.declared.event.Call.TheVariants.{Exchanged}
+use Rattle.bmc_shared.specs.declared.held.PeriodFull.{PeriodFull}
+use Rattle.bmc_shared.specs.Calls.{KeepsHere}
 use Rattle.bmc_shared.specs.declared.seat.Seat.{Seat}
 use Rattle.bmc_shared.specs.Calling.{HasCalled, HasFoundNoRoom}
 use Rattle.bmc_shared.specs.Serving.{WorkerStep, frames_of}

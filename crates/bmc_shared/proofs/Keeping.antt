@@ -12,13 +12,13 @@ use Rattle.bmc_board.specs.Gives.{GivesReply}
 use Rattle.bmc_board.specs.declared.asked_ref.AskedRef.{AskedRef}
 use Rattle.bmc_board.specs.Asking.{as_asked}
 use Rattle.bmc_board.specs.Carrying.{code_given}
-use Rattle.bmc_history.specs.declared.event.Call.{Call}
-use Rattle.bmc_history.specs.declared.event.Call.TheVariants.{Exchanged}
-use Rattle.bmc_history.specs.declared.event.Event.{Event}
-use Rattle.bmc_history.specs.declared.held.PeriodFull.{PeriodFull}
-use Rattle.bmc_history.specs.Entries.{exchanged}
-use Rattle.bmc_history.specs.Calls.{GainsCall, ExchangesHere, KeepsHere}
-use Rattle.bmc_history.proofs.Here.{room_is, call_is}
+use Rattle.bmc_shared.specs.declared.event.Call.{Call}
+use Rattle.bmc_shared.specs.declared.event.Call.TheVariants.{Exchanged}
+use Rattle.bmc_shared.specs.declared.event.Event.{Event}
+use Rattle.bmc_shared.specs.declared.held.PeriodFull.{PeriodFull}
+use Rattle.bmc_shared.specs.Entries.{exchanged}
+use Rattle.bmc_shared.specs.Calls.{GainsCall, ExchangesHere, KeepsHere}
+use Rattle.bmc_shared.proofs.Here.{room_is, call_is}
 use Rattle.bmc_shared.specs.declared.seat.Seat.{Seat}
 use Rattle.bmc_shared.specs.Seated.{LeavesSeat}
 

@@ -1,3 +1,10 @@
+pub mod Replaying
+pub mod Following
+pub mod TwoStores
+pub mod Getting
+pub mod Here
+pub mod Lying
+pub mod Comparing
 pub mod Keeping
 pub mod Turning
 pub mod Calling

@@ -15,7 +15,7 @@ use Rattle.wire_links.specs.declared.link.Link.{Ghosts}
 use Rattle.wire_links.specs.Counted.{one_more, counted_on, after_next}
 use Rattle.wire_links.specs.Trace.{Gives, GivesFrame, frame_heard}
 use Rattle.wire_links.proofs.Counting.{counted_twice}
-use Rattle.bmc_history.specs.declared.event.Call.{Call}
+use Rattle.bmc_shared.specs.declared.event.Call.{Call}
 use Rattle.bmc_shared.specs.Serving.{CallsNext, CarriesRequest, MakesTurn, OneTurnOver, TurnsOver, EndsWithoutRoom, ServesFrames, ServesTo, MadeAll, TakesHeard, WorkerStep, StepOver, WorkerRun, frames_in, frames_of}
 use Rattle.bmc_shared.specs.declared.worker.End.{End}
 use Rattle.bmc_shared.specs.declared.worker.End.TheVariants.{Turns, Full}

@@ -2,8 +2,8 @@
 use Rattle.std.specs.Prelude.{◌≡◌, true}
 use Rattle.record_base.specs.declared.message.Asked.{Asked}
 use Rattle.record_base.specs.declared.message.Answered.{Answered}
-use Rattle.bmc_history.specs.declared.event.Call.TheVariants.{Exchanged}
-use Rattle.bmc_history.specs.Calls.{GainsCall}
+use Rattle.bmc_shared.specs.declared.event.Call.TheVariants.{Exchanged}
+use Rattle.bmc_shared.specs.Calls.{GainsCall}
 use Rattle.bmc_shared.specs.declared.seat.Seat.{Seat}
 
 -- its list gained the request with the answer, and its mark is as it was

@@ -2,11 +2,11 @@
 use Rattle.std.specs.Prelude.{◌≡◌, ◌+◌, ℕ, List, [], true, false, length, drop, Result, IfOk, OnOk, OnErr}
 use Rattle.bmc_board.specs.declared.asked_ref.AskedRef.{AskedRef}
 use Rattle.bmc_board.specs.Carrying.{code_given}
-use Rattle.bmc_history.specs.Calls.{GainsCall}
-use Rattle.bmc_history.specs.Entries.{CallList, exchanged}
-use Rattle.bmc_history.specs.declared.event.Event.{Event}
-use Rattle.bmc_history.specs.declared.held.PeriodFull.{PeriodFull}
-use Rattle.bmc_history.specs.Matching.{MatchesHistory}
+use Rattle.bmc_shared.specs.Calls.{GainsCall}
+use Rattle.bmc_shared.specs.Entries.{CallList, exchanged}
+use Rattle.bmc_shared.specs.declared.event.Event.{Event}
+use Rattle.bmc_shared.specs.declared.held.PeriodFull.{PeriodFull}
+use Rattle.bmc_shared.specs.Matching.{MatchesHistory}
 use Rattle.bmc_shared.specs.declared.seat.Seat.{Seat}
 use Rattle.bmc_shared.specs.declared.seat.Seats.{Seats}
 

@@ -11,9 +11,9 @@ use Rattle.wire_links.specs.declared.link.Counts.{Counts}
 use Rattle.wire_links.specs.declared.link.Link.{Ghosts}
 use Rattle.wire_links.specs.Counted.{counted_on}
 use Rattle.wire_links.specs.Trace.{GivesFrame, TakesEach}
-use Rattle.bmc_history.specs.declared.event.Call.{Call}
-use Rattle.bmc_history.specs.declared.event.Call.TheVariants.{Exchanged}
-use Rattle.bmc_history.specs.declared.held.PeriodFull.{PeriodFull}
+use Rattle.bmc_shared.specs.declared.event.Call.{Call}
+use Rattle.bmc_shared.specs.declared.event.Call.TheVariants.{Exchanged}
+use Rattle.bmc_shared.specs.declared.held.PeriodFull.{PeriodFull}
 use Rattle.bmc_shared.specs.declared.worker.End.{End}
 use Rattle.bmc_shared.specs.declared.worker.End.TheVariants.{Turns, Full}
 

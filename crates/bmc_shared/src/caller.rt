@@ -1,9 +1,10 @@
 //! What carries out what a worker's port hears: the board that workers share.
 use crate::gate::Gate;
+use crate::held::PeriodFull;
+use crate::opening::Opening;
 use crate::seat::Seat;
 use crate::shared::Shared;
 use bmc_board::{AskedRef, Carrier, Reply};
-use bmc_history::{Opening, PeriodFull};
 use cfg_records::Store;
 use std::sync::Wait;
 use two_wire::Code;

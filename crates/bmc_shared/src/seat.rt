@@ -1,7 +1,8 @@
 //! Those who may call the board.
 ghost use Rattle.std.specs.Prelude.{◌≡◌, [], false, length};
 
-use bmc_history::{Calls, Opening};
+use crate::events::Calls;
+use crate::opening::Opening;
 use std::sync::ledger::Share;
 
 /// One that may call the board: its number, what it called and was answered, and its share of the ledger that counts the history's events.

@@ -7,10 +7,11 @@ ghost use Rattle.bmc_shared.specs.declared.worker.End.TheVariants.{Turns, Full};
 
 use crate::caller::Caller;
 use crate::gate::Gate;
+use crate::held::PeriodFull;
+use crate::opening::Opening;
 use crate::seat::Seat;
 use crate::shared::Shared;
 use bmc_core::{Out, Port, ServeOutcome};
-use bmc_history::{Opening, PeriodFull};
 use cfg_records::Store;
 use std::sync::Wait;
 use two_wire::Frame;

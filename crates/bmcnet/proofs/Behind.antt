@@ -10,7 +10,7 @@ use Rattle.app_change.specs.declared.changing.ChangeWords.{ChangeWords}
 use Rattle.app_change.specs.declared.taking_back.BackWords.{BackWords}
 use Rattle.app_show.specs.declared.showing.ShowWords.{ShowWords}
 use Rattle.app_pair.specs.declared.pairing.PairWords.{PairWords}
-use Rattle.app_preview.specs.declared.previewing.PreviewWords.{PreviewWords}
+use Rattle.app_change.specs.declared.previewing.PreviewWords.{PreviewWords}
 use Rattle.bmcnet.specs.declared.words.Words.{Words}
 use Rattle.bmcnet.specs.declared.words.Words.TheVariants.{Serve, Run, Undo, Pair, Apply, Revert, Preview, Show, Version}
 use Rattle.bmcnet.specs.Asked.{AsksBy, AsksServe, AsksRun, AsksUndo, AsksPair, AsksChange, AsksBack, AsksPreview, AsksShow}

@@ -17,7 +17,7 @@ use Rattle.app_change.specs.Ends.{ChangeEndsOf}
 use Rattle.app_change.specs.Back.{BackEndsOf}
 use Rattle.app_show.specs.Show.{ShowEndsOf}
 use Rattle.app_pair.specs.PairRun.{PrintsPairOfFiles, words_of}
-use Rattle.app_preview.specs.Preview.{PreviewEndsOf}
+use Rattle.app_change.specs.Preview.{PreviewEndsOf}
 use Rattle.bmcnet.specs.declared.words.Words.{Words}
 use Rattle.bmcnet.specs.declared.words.Words.TheVariants.{Serve, Run, Undo, Pair, Apply, Revert, Preview, Show, Version}
 use Rattle.bmcnet.specs.Asked.{AsksFor}

@@ -4,10 +4,9 @@ ghost use Rattle.bmcnet.specs.Run.{EndsAsAsked, LineEnds, LineTells, MayTellAsAs
 
 use crate::words::{Words, read};
 use app_base::{Console, TextFiles, refuse, tell_version};
-use app_change::{change, take_back};
+use app_change::{change, preview, take_back};
 use app_journal::WritesFiles;
 use app_pair::pair;
-use app_preview::preview;
 use app_run::{Progress, run, undo};
 use app_serve::serve;
 use app_show::show;

@@ -1,3 +1,7 @@
+pub mod Entries
+pub mod Offsets
+pub mod Images
+pub mod Packs
 pub mod Searches
 pub mod Nowhere
 pub mod Pairs

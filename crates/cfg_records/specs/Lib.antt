@@ -1,3 +1,8 @@
+pub mod SortedKeys
+pub mod SortedKeysLaws
+pub mod ImagePlaces
+pub mod Image
+pub mod ImageLaws
 pub mod Records
 pub mod Places
 pub mod Index

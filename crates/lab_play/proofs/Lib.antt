@@ -10,3 +10,8 @@ pub mod Moments
 pub mod Turns
 pub mod Remaking
 pub mod RemadePhase
+pub mod Cleanly
+pub mod Offers
+pub mod Deliveries
+pub mod CleanKeeps
+pub mod Carried

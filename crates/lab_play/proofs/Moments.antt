@@ -24,8 +24,8 @@ use Rattle.model_lab.specs.Joins.{IsJoinLive}
 use Rattle.model_lab.specs.Meaning.{lab_names, event_of}
 use Rattle.model_lab.specs.Played.{plans, happens, told_of}
 use Rattle.model_lab.proofs.Breaches.{faults_are_breaches}
-use Rattle.text_schedule.specs.declared.event.Event.{Event}
-use Rattle.text_schedule.specs.declared.event.Event.TheVariants as event
+use Rattle.text_lines.specs.declared.event.Event.{Event}
+use Rattle.text_lines.specs.declared.event.Event.TheVariants as event
 use Rattle.model_headline.specs.Tied.{own_family, own_lines, IsTied, world_of, WorldFollows}
 use Rattle.model_headline.specs.Follows.{HoldsInWorld, RestartsAreFollowed}
 use Rattle.model_headline.specs.Answers.{AnswerGiven, CausedBy}

@@ -7,7 +7,7 @@ use Rattle.std.specs.List.{AllZip}
 use Rattle.cfg_records.specs.declared.board_file.BoardFile.{BoardFile}
 use Rattle.record_base.specs.declared.op.Op.{Op}
 use Rattle.model_lab.specs.Lab.{LabFrame, Lab as LabModel, opening}
-use Rattle.text_schedule.specs.declared.event.Event.{Event}
+use Rattle.text_lines.specs.declared.event.Event.{Event}
 use Rattle.model_lab.specs.Meaning.{lab_names}
 use Rattle.model_lab.specs.Played.{plans, happens, after}
 use Rattle.lab_run.specs.declared.note.Note.{Note}

@@ -7,13 +7,13 @@ use Rattle.two_wire.specs.declared.Bus.{Bus}
 use Rattle.two_wire.specs.declared.Bus.TheVariants.{Ipmb, Smbus}
 use Rattle.mctp_net.specs.Assembly.{is_ours}
 use Rattle.cfg_records.specs.declared.board_file.BoardFile.{BoardFile}
-use Rattle.model_ports.specs.Values.{Value, Asks, Tells, Part}
-use Rattle.model_ports.specs.PortSteps.{PortState, hears, idles}
+use Rattle.bmc_core.specs.Values.{Value, Asks, Tells, Part}
+use Rattle.bmc_core.specs.PortSteps.{PortState, hears, idles}
 use Rattle.model_lab.specs.ManagerSteps.{ManagerStepResult, Sent, called, manager_hears}
 use Rattle.model_lab.specs.Lab.{LabFrame, Lab as LabModel, sends, call_does, with_port, port_on, opens, delivered, returned, step}
 use Rattle.model_lab.specs.Played.{plans, happens}
-use Rattle.text_schedule.specs.declared.event.Event.{Event}
-use Rattle.text_schedule.specs.declared.event.Event.TheVariants as event
+use Rattle.text_lines.specs.declared.event.Event.{Event}
+use Rattle.text_lines.specs.declared.event.Event.TheVariants as event
 use Rattle.lab_run.specs.declared.part.ManagerPart.{ManagerPart}
 use Rattle.lab_run.specs.Parts.{part_of, part_in, part_at}
 

@@ -2,7 +2,7 @@
 use Rattle.std.proofs.Common.{◌≡◌, ◌+◌, ℕ, List, [], ◌∷◌, ◌++◌, length, take, drop, Option, None, Result, Ok, Err, refl, sym, ap, subst, true≢false}
 use Rattle.cfg_records.specs.declared.board_file.BoardFile.{BoardFile}
 use Rattle.model_lab.specs.Lab.{Lab as LabModel}
-use Rattle.text_schedule.specs.declared.event.Event.{Event}
+use Rattle.text_lines.specs.declared.event.Event.{Event}
 use Rattle.model_lab.specs.Played.{plans, fault_at, happens, after, AreTaken}
 use Rattle.lab_run.specs.Shown.{Represents, EventStep}
 use Rattle.lab_play.specs.Runs.{TakesEvents, IsStop, RunsEvents}

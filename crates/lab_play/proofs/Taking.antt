@@ -14,8 +14,8 @@ use Rattle.pldm_base.specs.declared.fault.PldmFault.{PldmFault}
 use Rattle.pldm_base.specs.declared.message.PldmRequest.{PldmRequest}
 use Rattle.pldm_base.specs.Message.{request_in as pldm_request_in, has_fault as has_pldm_fault, faults as pldm_faults}
 use Rattle.model_bus.specs.Carried.{Outcome, Repeats, IsBusy, IsNew}
-use Rattle.model_ports.specs.Values.{Part}
-use Rattle.model_ports.specs.PortSteps.{PortState}
+use Rattle.bmc_core.specs.Values.{Part}
+use Rattle.bmc_core.specs.PortSteps.{PortState}
 use Rattle.model_lab.specs.Joins.{JoinsLive}
 use Rattle.model_lab.specs.Faults.{begun_on}
 use Rattle.model_lab.specs.Lab.{Lab as LabModel}

@@ -4,7 +4,7 @@ use Rattle.cfg_records.specs.declared.board_file.BoardFile.{BoardFile}
 use Rattle.model_lab.specs.Lab.{Lab as LabModel}
 use Rattle.model_lab.specs.Played.{plans, fault_at, happens}
 use Rattle.model_headline.specs.Plays.{KeepsPremise}
-use Rattle.text_schedule.specs.declared.event.Event.{Event}
+use Rattle.text_lines.specs.declared.event.Event.{Event}
 use Rattle.lab_run.specs.Shown.{Represents}
 use Rattle.lab_run.specs.declared.lab_state.Lab.{Lab}
 use Rattle.lab_run.specs.declared.step.Refused.{Refused}

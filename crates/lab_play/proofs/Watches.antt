@@ -9,14 +9,14 @@ use Rattle.two_wire.specs.declared.Bus.TheVariants.{Ipmb, Smbus}
 use Rattle.mctp_net.specs.declared.packet.Packet.{Packet}
 use Rattle.mctp_net.specs.Assembly.{is_ours}
 use Rattle.cfg_records.specs.declared.board_file.BoardFile.{BoardFile}
-use Rattle.model_ports.specs.Values.{Value, Asks, Tells, Part, IsFrameOn}
+use Rattle.bmc_core.specs.Values.{Value, Asks, Tells, Part, IsFrameOn}
 use Rattle.model_lab.specs.Joins.{JoinsLive}
 use Rattle.model_lab.specs.Faults.{begun_on}
 use Rattle.model_lab.specs.Lab.{LabFrame, Lab as LabModel, port_on}
 use Rattle.model_lab.specs.Played.{plans, happens}
 use Rattle.model_headline.specs.Plays.{KeepsPremise}
-use Rattle.text_schedule.specs.declared.event.Event.{Event}
-use Rattle.text_schedule.specs.declared.event.Event.TheVariants as event
+use Rattle.text_lines.specs.declared.event.Event.{Event}
+use Rattle.text_lines.specs.declared.event.Event.TheVariants as event
 use Rattle.lab_run.specs.declared.frames.SentFrame.{SentFrame}
 use Rattle.lab_run.specs.declared.lab_state.Lab.{Lab}
 use Rattle.lab_run.specs.declared.part.ManagerPart.{ManagerPart}

@@ -4,7 +4,7 @@ use Rattle.cfg_records.specs.declared.board_file.BoardFile.{BoardFile}
 use Rattle.model_lab.specs.Lab.{Lab as LabModel}
 use Rattle.model_lab.specs.Played.{plans, happens, after}
 use Rattle.model_headline.specs.Plays.{KeepsPremise, AllKeepPremise, TellsPremise}
-use Rattle.text_schedule.specs.declared.event.Event.{Event}
+use Rattle.text_lines.specs.declared.event.Event.{Event}
 use Rattle.lab_run.specs.declared.lab_state.Lab.{Lab}
 use Rattle.lab_play.specs.declared.run.Stopped.{Stopped}
 use Rattle.lab_play.specs.declared.watch.Watch.{Watch}

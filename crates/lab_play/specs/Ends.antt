@@ -6,7 +6,7 @@ use Rattle.cfg_records.specs.Records.{KeysDiffer, records_of}
 use Rattle.cfg_records.specs.Boards.{pairs_of}
 use Rattle.undo_plans.specs.Steps.{most_steps}
 use Rattle.model_lab.specs.Lab.{Lab as LabModel, opening}
-use Rattle.text_schedule.specs.declared.event.Event.{Event}
+use Rattle.text_lines.specs.declared.event.Event.{Event}
 use Rattle.model_lab.specs.Meaning.{lab_names}
 use Rattle.model_lab.specs.Played.{plans, Told, Ending, Whole, Stops, told_of, IsPlayed}
 use Rattle.model_headline.specs.Plays.{taken_by, told_by, TellsPremise, ToldStands, StandsIfKept}

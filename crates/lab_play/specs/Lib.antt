@@ -5,3 +5,5 @@ pub mod Noted
 pub mod Restarts
 pub mod Restarting
 pub mod Halts
+pub mod Drawn
+pub mod Made

@@ -8,7 +8,7 @@ use Rattle.model_undo.specs.declared.phase.Phase.{Phase}
 use Rattle.model_undo.specs.Machine.{phase_of}
 use Rattle.model_lab.specs.Lab.{Lab as LabModel, opening}
 use Rattle.bmc_core.specs.declared.out.Disposition.{Disposition}
-use Rattle.text_schedule.specs.declared.event.Event.{Event}
+use Rattle.text_lines.specs.declared.event.Event.{Event}
 use Rattle.model_lab.specs.Meaning.{lab_names}
 use Rattle.model_lab.specs.Played.{plans, happens}
 use Rattle.lab_run.specs.declared.note.Delivery.{Delivery}

@@ -7,7 +7,7 @@ use Rattle.model_lab.specs.Lab.{Lab as LabModel, opening}
 use Rattle.model_lab.specs.Meaning.{lab_names}
 use Rattle.model_lab.specs.Played.{plans, Ending, fault_at}
 use Rattle.model_headline.specs.Plays.{KeepsPremise, taken_by, told_by}
-use Rattle.text_schedule.specs.declared.event.Event.{Event}
+use Rattle.text_lines.specs.declared.event.Event.{Event}
 use Rattle.lab_run.specs.Shown.{Represents, ForRepresented}
 use Rattle.lab_run.specs.declared.note.Note.{Note}
 use Rattle.lab_run.specs.declared.lab_state.Lab.{Lab}

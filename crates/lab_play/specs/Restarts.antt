@@ -19,8 +19,8 @@ use Rattle.model_lab.specs.Played.{plans, Told, Ending, Whole, Stops, fault_at, 
 use Rattle.model_headline.specs.Answers.{AnswerGiven, CausedBy}
 use Rattle.model_headline.specs.Tied.{own_family}
 use Rattle.model_headline.specs.Plays.{KeepsPremise}
-use Rattle.text_schedule.specs.declared.event.Event.{Event}
-use Rattle.text_schedule.specs.declared.event.Event.TheVariants.{Calls}
+use Rattle.text_lines.specs.declared.event.Event.{Event}
+use Rattle.text_lines.specs.declared.event.Event.TheVariants.{Calls}
 use Rattle.lab_run.specs.Makes.{restarts}
 
 -- what happens in such a play: an event of the schedule, or that the manager is made again

@@ -2,7 +2,7 @@
 use Rattle.std.specs.Prelude.{◌≡◌, ◌+◌, ℕ, false, List, ◌∷◌, ◌++◌, length, Option, Some, None, Result, Ok, Err, is_ok}
 use Rattle.cfg_records.specs.declared.board_file.BoardFile.{BoardFile}
 use Rattle.model_lab.specs.Lab.{Lab as LabModel}
-use Rattle.text_schedule.specs.declared.event.Event.{Event}
+use Rattle.text_lines.specs.declared.event.Event.{Event}
 use Rattle.model_lab.specs.Played.{plans, fault_at, after, AreTaken}
 use Rattle.lab_run.specs.Shown.{Represents}
 use Rattle.lab_run.specs.declared.lab_state.Lab.{Lab}

@@ -11,7 +11,7 @@ use Rattle.bmc_core.specs.declared.out.Reason.TheVariants as reason
 use Rattle.model_lab.specs.Lab.{Lab as LabModel}
 use Rattle.model_lab.specs.Played.{plans, happens, after}
 use Rattle.model_headline.specs.Plays.{KeepsPremise, TellsPremise}
-use Rattle.text_schedule.specs.declared.event.Event.{Event}
+use Rattle.text_lines.specs.declared.event.Event.{Event}
 use Rattle.lab_run.specs.declared.lab_state.Lab.{Lab}
 use Rattle.lab_run.specs.declared.part.ManagerPart.{ManagerPart}
 use Rattle.lab_run.specs.declared.step.Refused.{Refused}

@@ -8,7 +8,7 @@ use lab_run::Note;
 use record_base::{Key, RecordKind};
 use record_kinds::Limits;
 use std::alloc::{AllocError, Global};
-use text_schedule::Event;
+use text_lines::Event;
 use undo_plans::{Plan, Steps};
 
 /// The records of a plan's steps, in their order.

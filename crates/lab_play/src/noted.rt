@@ -10,7 +10,7 @@ use crate::run::{Stopped, stopped_at};
 use crate::watch::{Watch, step_watched};
 use lab_run::{Lab, Note, Refused};
 use std::alloc::AllocError;
-use text_schedule::Event;
+use text_lines::Event;
 
 /// One event happens in a lab, the premise on packets is watched, and the event's note is added. On a fault nothing changes.
 pub(crate) fn step_noted<'a>(

@@ -20,7 +20,7 @@ use bmc_board::Records;
 use cfg_records::{BoardFile, Key, StartValue, Store, changed_count};
 use lab_run::{Fault, Lab, Note, SentFrame};
 use std::alloc::{AllocError, Global};
-use text_schedule::Event;
+use text_lines::Event;
 use undo_core::Phase;
 use undo_plans::{Plan, UndoList};
 

@@ -11,7 +11,7 @@ use crate::run::{Stopped, stopped_at};
 use crate::watch::Watch;
 use lab_run::{Lab, Note, Refused};
 use std::alloc::{AllocError, Global};
-use text_schedule::Event;
+use text_lines::Event;
 
 /// Whether the place is one of those.
 pub fn has_place(places: &[usize], place: usize) -> bool

@@ -8,7 +8,7 @@ ghost use Rattle.lab_play.specs.Watched.{WatchesRun};
 use crate::watch::{Watch, step_watched};
 use lab_run::{Fault, Lab, Refused};
 use std::alloc::AllocError;
-use text_schedule::Event;
+use text_lines::Event;
 
 /// The event that a lab didn't take.
 #[derive(Clone, Copy)]

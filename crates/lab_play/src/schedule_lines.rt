@@ -1,6 +1,6 @@
 //! The lines of a schedule in which its events stand.
 ghost use Rattle.std.specs.Prelude.{◌≡◌};
-ghost use Rattle.text_schedule.specs.Schedule.{is_skipped};
+ghost use Rattle.text_lines.specs.Schedule.{is_skipped};
 
 /// A line of a schedule.
 #[derive(Clone, Copy)]

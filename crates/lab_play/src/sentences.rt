@@ -2,10 +2,10 @@
 use crate::halt::Halt;
 use crate::run::Stopped;
 use crate::schedule_lines::event_line;
-use code_words::{NamedCode, code_row, phase_row};
 use model_undo::{Phase, Why};
 use record_base::Key;
 use record_words::RecordName;
+use report_words::{NamedCode, code_row, phase_row};
 use std::alloc::AllocError;
 use two_wire::Bus;
 

@@ -9,7 +9,7 @@ ghost use Rattle.lab_play.specs.Watched.{took_by, waits_long, opened_in, broken_
 use bmc_core::{Disposition, Reason};
 use lab_run::{Lab, ManagerPart, Refused};
 use model_bus::span;
-use text_schedule::Event;
+use text_lines::Event;
 use two_wire::Bus;
 use two_wire::circles::TAGS;
 

@@ -8,8 +8,8 @@ use Rattle.model_lab.specs.Lab.{LabFrame, Lab as LabModel, port_on}
 use Rattle.model_lab.specs.declared.fault.Fault.TheVariants.{NoFrame}
 use Rattle.model_lab.specs.Faults.{first_of, delivery}
 use Rattle.bmc_core.specs.declared.out.Disposition.{Disposition}
-use Rattle.text_schedule.specs.declared.event.Event.{Event}
-use Rattle.text_schedule.specs.declared.event.Event.TheVariants as event
+use Rattle.text_lines.specs.declared.event.Event.{Event}
+use Rattle.text_lines.specs.declared.event.Event.TheVariants as event
 use Rattle.lab_run.specs.declared.frames.SentFrame.{SentFrame}
 use Rattle.model_lab.specs.Played.{plans, fault_at}
 use Rattle.lab_run.specs.declared.lab_state.Lab.{Lab}

@@ -22,9 +22,9 @@ use Rattle.model_bus.specs.Request.{Kept, Entry, idles_of}
 use Rattle.model_bus.specs.Numbering.{is_above}
 use Rattle.model_bus.specs.Carried.{Outcome, Repeats, IsBusy, IsNew, outcome, log_after}
 use Rattle.model_bus.specs.Packet.{Packet as ModelPacket, packets_of}
-use Rattle.model_ports.specs.Bytes.{heard_in, pldm_heard_in}
-use Rattle.model_ports.specs.Values.{Value, Asks, Tells, Part, IsFrameOn, parts_of}
-use Rattle.model_ports.specs.PortSteps.{PortState, StepResult, stays, turn, spelled, asked_in, pldm_asked, hears_request, hears_control, hears_pldm, hears_typed, hears_message, ends_message, hears_part, hears_parts, hears_all, hears}
+use Rattle.bmc_core.specs.Bytes.{heard_in, pldm_heard_in}
+use Rattle.bmc_core.specs.Values.{Value, Asks, Tells, Part, IsFrameOn, parts_of}
+use Rattle.bmc_core.specs.PortSteps.{PortState, StepResult, stays, turn, spelled, asked_in, pldm_asked, hears_request, hears_control, hears_pldm, hears_typed, hears_message, ends_message, hears_part, hears_parts, hears_all, hears}
 use Rattle.model_lab.specs.ManagerSteps.{own_on}
 use Rattle.model_lab.specs.declared.way.Way.TheVariants.{ToOthers}
 use Rattle.model_lab.specs.Lab.{LabFrame, Lab as LabModel, port_does}

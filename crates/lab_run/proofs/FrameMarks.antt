@@ -9,8 +9,8 @@ use Rattle.two_wire.specs.declared.Bus.TheVariants.{Ipmb, Smbus}
 use Rattle.mctp_net.specs.Assembly.{is_ours}
 use Rattle.cfg_records.specs.declared.board_file.BoardFile.{BoardFile}
 use Rattle.lab_run.specs.declared.ages.FrameAge.{FrameAge}
-use Rattle.model_ports.specs.Values.{Value, Asks, Tells, Part}
-use Rattle.model_ports.specs.PortSteps.{PortState, StepResult, hears}
+use Rattle.bmc_core.specs.Values.{Value, Asks, Tells, Part}
+use Rattle.bmc_core.specs.PortSteps.{PortState, StepResult, hears}
 use Rattle.model_lab.specs.ManagerSteps.{Plans}
 use Rattle.model_lab.specs.declared.way.Way.TheVariants.{ToManager}
 use Rattle.model_lab.specs.Lab.{LabFrame, ToBmc, Lab, port_on, with_port, idles_on, frame_now, opens, port_does, delivered, step}

@@ -9,7 +9,7 @@ use Rattle.bmc_core.specs.declared.ipmb_port.IpmbPort.{IpmbPort}
 use Rattle.bmc_core.specs.declared.smbus_port.SmbusPort.{SmbusPort}
 use Rattle.bmc_core.specs.IpmbShown as ipmb
 use Rattle.bmc_core.specs.SmbusShown as smbus
-use Rattle.model_ports.specs.PortSteps.{idles}
+use Rattle.bmc_core.specs.PortSteps.{idles}
 use Rattle.model_lab.specs.Lab.{Lab as LabModel, idles_on, with_port}
 use Rattle.model_lab.specs.Played.{plans}
 use Rattle.lab_run.specs.declared.lab_state.Lab.{Lab}

@@ -16,7 +16,7 @@ use Rattle.cfg_records.specs.declared.board_file.BoardFile.{BoardFile}
 use Rattle.undo_plans.specs.declared.names.Names.{Names}
 use Rattle.model_bus.specs.Request.{idles_of}
 use Rattle.lab_run.specs.declared.ages.FrameAge.{FrameAge}
-use Rattle.model_ports.specs.Values.{Value, Asks, Tells, Part, IsFrameOn}
+use Rattle.bmc_core.specs.Values.{Value, Asks, Tells, Part, IsFrameOn}
 use Rattle.model_lab.specs.ManagerSteps.{own_on, Sent as AllSent, ManagerState, ManagerStepResult, rests, hears_response, hears_packet, manager_hears}
 use Rattle.model_lab.specs.Lab.{LabFrame, Lab as LabModel, idles_on, sends, call_does, returned}
 use Rattle.undo_core.specs.declared.manager.Manager.{Manager}

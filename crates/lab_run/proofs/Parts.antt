@@ -3,7 +3,7 @@ use Rattle.std.proofs.Common.{◌≡◌, ℕ, ◌==◌, ◌||◌, List, Some, No
 use Rattle.two_wire.specs.declared.Bus.TheVariants.{Ipmb, Smbus}
 use Rattle.mctp_net.specs.declared.packet.Packet.{Packet}
 use Rattle.mctp_net.specs.Grammar.{IsPacket}
-use Rattle.model_ports.specs.Values.{Value, Asks, Tells, Part, IsFrameOn}
+use Rattle.bmc_core.specs.Values.{Value, Asks, Tells, Part, IsFrameOn}
 use Rattle.model_lab.specs.Lab.{LabFrame, Lab as LabModel}
 use Rattle.model_lab.specs.Played.{plans}
 use Rattle.lab_run.specs.declared.frames.SentFrame.{SentFrame}

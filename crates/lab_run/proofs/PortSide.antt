@@ -14,8 +14,8 @@ use Rattle.mctp_net.specs.Assembly.{is_ours}
 use Rattle.cfg_records.specs.declared.board_file.BoardFile.{BoardFile}
 use Rattle.bmc_board.specs.State.{State, state_of}
 use Rattle.ipmb_frame.specs.declared.message.Request.{Request}
-use Rattle.model_ports.specs.Values.{Value, Asks, Tells, Part, written, IsFrameOn, parts_of}
-use Rattle.model_ports.specs.PortSteps.{PortState, StepResult, hears, hears_all}
+use Rattle.bmc_core.specs.Values.{Value, Asks, Tells, Part, written, IsFrameOn, parts_of}
+use Rattle.bmc_core.specs.PortSteps.{PortState, StepResult, hears, hears_all}
 use Rattle.model_lab.specs.ManagerSteps.{own_on}
 use Rattle.model_lab.specs.declared.way.Way.TheVariants.{ToManager, ToOthers}
 use Rattle.model_lab.specs.Lab.{LabFrame, Lab as LabModel, port_on, with_port, idles_on, port_does, opens, delivered}

@@ -1,6 +1,6 @@
 -- A manager that is made anew of a journal.
 use Rattle.std.proofs.Common.{◌≡◌, Result, Ok, Err, IfOk, subst}
-use Rattle.undo_journal.specs.Kept.{Kept}
+use Rattle.undo_plans.specs.KeptManager.{Kept}
 use Rattle.undo_core.specs.declared.manager.Manager.{Manager}
 use Rattle.undo_core.specs.Shown.{IsRemade}
 use Rattle.undo_core.specs.Journals.{kept_by, IsRevived}

@@ -6,7 +6,7 @@ use Rattle.two_wire.specs.declared.Bus.{Bus}
 use Rattle.two_wire.specs.declared.Bus.TheVariants as bus
 use Rattle.cfg_records.specs.declared.board_file.BoardFile.{BoardFile}
 use Rattle.lab_run.specs.declared.ages.FrameAge.{FrameAge}
-use Rattle.model_ports.specs.Values.{Value, written, IsFrameOn}
+use Rattle.bmc_core.specs.Values.{Value, written, IsFrameOn}
 use Rattle.model_lab.specs.Lab.{LabFrame, Lab as LabModel, frame_now, idles_on, with_frames}
 use Rattle.lab_run.specs.Marks.{HasMark}
 use Rattle.model_lab.specs.declared.way.Way.{Way}

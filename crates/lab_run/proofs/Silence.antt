@@ -18,8 +18,8 @@ use Rattle.mctp_net.specs.Grammar.{IsPacket, has_fault as has_packet_fault, faul
 use Rattle.mctp_net.proofs.PacketLaws.{packet-whole}
 use Rattle.cfg_records.specs.declared.board_file.BoardFile.{BoardFile}
 use Rattle.bmc_board.specs.State.{state_of}
-use Rattle.model_ports.specs.Values.{IsFrameOn}
-use Rattle.model_ports.specs.PortSteps.{PortState, stays}
+use Rattle.bmc_core.specs.Values.{IsFrameOn}
+use Rattle.bmc_core.specs.PortSteps.{PortState, stays}
 use Rattle.model_lab.specs.declared.way.Way.{Way}
 use Rattle.model_lab.specs.Lab.{LabFrame, Noise, Lab as LabModel, port_on, with_port, with_frames}
 use Rattle.model_lab.specs.declared.fault.Fault.TheVariants.{Forged}

@@ -5,7 +5,7 @@ use Rattle.two_wire.specs.declared.Bus.TheVariants.{Ipmb, Smbus}
 use Rattle.undo_plans.specs.declared.names.Names.{Names}
 use Rattle.bmc_board.specs.Table.{is_changing}
 use Rattle.model_undo.specs.Machine.{open_bus}
-use Rattle.model_ports.specs.PortSteps.{asked_in}
+use Rattle.bmc_core.specs.PortSteps.{asked_in}
 use Rattle.model_lab.specs.ManagerSteps.{board_plans}
 use Rattle.model_lab.specs.declared.way.Way.{Way}
 use Rattle.model_lab.specs.declared.fault.Fault.{Fault}
@@ -13,8 +13,8 @@ use Rattle.model_lab.specs.declared.fault.Fault.TheVariants.{Room, Changing, Imp
 use Rattle.model_lab.specs.Lab.{Lab, Noise, Idles}
 use Rattle.model_lab.specs.Meaning.{request_of}
 use Rattle.model_lab.specs.Faults.{Check, fault_of, first_of, check, delivery, is_full, is_own, message_changes}
-use Rattle.text_schedule.specs.declared.event.OtherRequest.{OtherRequest}
-use Rattle.text_schedule.specs.declared.event.OtherMessage.{OtherMessage}
+use Rattle.text_lines.specs.declared.event.OtherRequest.{OtherRequest}
+use Rattle.text_lines.specs.declared.event.OtherMessage.{OtherMessage}
 use Rattle.lab_run.specs.declared.frames.SentFrame.{SentFrame}
 use Rattle.lab_run.specs.declared.fault.Ages.{Ages}
 use Rattle.lab_run.specs.FramesShown.{ShowsFrames}

@@ -3,8 +3,8 @@ use Rattle.std.specs.Prelude.{◌-◌, nat_lt, Option, Some, None, option_map, s
 use Rattle.model_lab.specs.Lab.{LabFrame, Lab as LabModel, port_on}
 use Rattle.model_lab.specs.Faults.{begun_on}
 use Rattle.bmc_core.specs.declared.out.Disposition.{Disposition}
-use Rattle.text_schedule.specs.declared.event.Event.{Event}
-use Rattle.text_schedule.specs.declared.event.Event.TheVariants as event
+use Rattle.text_lines.specs.declared.event.Event.{Event}
+use Rattle.text_lines.specs.declared.event.Event.TheVariants as event
 use Rattle.model_lab.specs.Played.{plans}
 use Rattle.lab_run.specs.declared.note.Delivery.{Delivery}
 use Rattle.lab_run.specs.declared.lab_state.Lab.{Lab}

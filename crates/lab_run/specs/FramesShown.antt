@@ -6,7 +6,7 @@ use Rattle.two_wire.specs.declared.Bus.TheVariants.{Ipmb, Smbus}
 use Rattle.undo_plans.specs.declared.names.Names.{Names}
 use Rattle.lab_run.specs.declared.ages.BusAge.{BusAge}
 use Rattle.lab_run.specs.declared.ages.FrameAge.{FrameAge}
-use Rattle.model_ports.specs.Values.{written}
+use Rattle.bmc_core.specs.Values.{written}
 use Rattle.model_lab.specs.ManagerSteps.{board_plans}
 use Rattle.model_lab.specs.Lab.{LabFrame, Lab}
 use Rattle.lab_run.specs.Marks.{HasMark, IsKnown}

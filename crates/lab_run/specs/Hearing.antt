@@ -7,8 +7,8 @@ use Rattle.ipmb_frame.specs.declared.message.Request.{Request}
 use Rattle.ipmb_frame.specs.Fault.{has_fault as has_frame_fault, faults as frame_faults}
 use Rattle.mctp_net.specs.Grammar.{has_fault as has_packet_fault, faults as packet_faults}
 use Rattle.cfg_records.specs.declared.board_file.BoardFile.{BoardFile}
-use Rattle.model_ports.specs.Values.{Value, Asks, Tells, Part, written, IsFrameOn, parts_of}
-use Rattle.model_ports.specs.PortSteps.{PortState, StepResult, hears, stays}
+use Rattle.bmc_core.specs.Values.{Value, Asks, Tells, Part, written, IsFrameOn, parts_of}
+use Rattle.bmc_core.specs.PortSteps.{PortState, StepResult, hears, stays}
 use Rattle.model_lab.specs.declared.way.Way.{Way}
 use Rattle.model_lab.specs.declared.way.Way.TheVariants.{ToOthers}
 use Rattle.model_lab.specs.Faults.{is_frame}
@@ -21,12 +21,12 @@ use Rattle.bmc_core.specs.declared.out.Reason.TheVariants as reason
 use Rattle.bmc_core.specs.Outs.{sent}
 use Rattle.bmc_core.specs.IpmbShown as ipmb
 use Rattle.bmc_core.specs.SmbusHeard as smbus
-use Rattle.text_schedule.specs.declared.event.Event.{Event}
-use Rattle.text_schedule.specs.declared.event.Event.TheVariants as event
+use Rattle.text_lines.specs.declared.event.Event.{Event}
+use Rattle.text_lines.specs.declared.event.Event.TheVariants as event
 use Rattle.undo_plans.specs.declared.names.Names.{Names}
 use Rattle.model_lab.specs.Meaning.{message_of}
 use Rattle.model_lab.specs.Played.{plans}
-use Rattle.text_schedule.specs.declared.event.OtherMessage.{OtherMessage}
+use Rattle.text_lines.specs.declared.event.OtherMessage.{OtherMessage}
 use Rattle.lab_run.specs.declared.lab_state.Lab.{Lab}
 use Rattle.lab_run.specs.declared.ages.FrameAge.{FrameAge}
 use Rattle.lab_run.specs.Shown.{Represents, ForRepresented}

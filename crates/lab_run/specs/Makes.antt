@@ -6,15 +6,15 @@ use Rattle.cfg_records.specs.declared.board_file.BoardFile.{BoardFile}
 use Rattle.bmc_board.specs.declared.bench.Bench.{Bench}
 use Rattle.bmc_board.specs.Sensing.{bench_of}
 use Rattle.model_undo.specs.declared.call.Call.{Call}
-use Rattle.model_ports.specs.Values.{Asks}
-use Rattle.model_ports.specs.PortSteps.{hears, hears_all, idles}
+use Rattle.bmc_core.specs.Values.{Asks}
+use Rattle.bmc_core.specs.PortSteps.{hears, hears_all, idles}
 use Rattle.model_lab.specs.ManagerSteps.{called, remade}
 use Rattle.model_lab.specs.declared.way.Way.TheVariants.{ToOthers}
 use Rattle.model_lab.specs.Lab.{Lab as LabModel, call_does, delivered, returned, port_does, port_on, with_port}
 use Rattle.model_lab.specs.Meaning.{lab_names, request_of, message_of}
 use Rattle.model_lab.specs.Played.{plans}
-use Rattle.text_schedule.specs.declared.event.OtherRequest.{OtherRequest}
-use Rattle.text_schedule.specs.declared.event.OtherMessage.{OtherMessage}
+use Rattle.text_lines.specs.declared.event.OtherRequest.{OtherRequest}
+use Rattle.text_lines.specs.declared.event.OtherMessage.{OtherMessage}
 
 -- the manager is called
 abbrev pub calls : Call → BoardFile → LabModel plans → LabModel plans

@@ -1,10 +1,10 @@
 -- The packet that an event brings to the controller's port on SMBus.
 use Rattle.std.specs.Prelude.{ℕ, Option, Some, None, slice_get}
 use Rattle.mctp_net.specs.Assembly.{is_ours}
-use Rattle.model_ports.specs.Values.{Value, Asks, Tells, Part}
+use Rattle.bmc_core.specs.Values.{Value, Asks, Tells, Part}
 use Rattle.model_lab.specs.Lab.{LabFrame, Lab as LabModel}
-use Rattle.text_schedule.specs.declared.event.Event.{Event}
-use Rattle.text_schedule.specs.declared.event.Event.TheVariants as event
+use Rattle.text_lines.specs.declared.event.Event.{Event}
+use Rattle.text_lines.specs.declared.event.Event.TheVariants as event
 use Rattle.model_lab.specs.Played.{plans}
 use Rattle.lab_run.specs.declared.part.ManagerPart.{ManagerPart}
 

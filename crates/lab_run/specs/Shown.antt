@@ -10,8 +10,8 @@ use Rattle.bmc_core.specs.declared.ipmb_port.IpmbPort.{IpmbPort}
 use Rattle.bmc_core.specs.declared.smbus_port.SmbusPort.{SmbusPort}
 use Rattle.bmc_core.specs.IpmbShown as ipmb
 use Rattle.bmc_core.specs.SmbusShown as smbus
-use Rattle.model_ports.specs.Values.{IsFrameOn}
-use Rattle.model_ports.specs.PortSteps.{quiet_port}
+use Rattle.bmc_core.specs.Values.{IsFrameOn}
+use Rattle.bmc_core.specs.PortSteps.{quiet_port}
 use Rattle.model_lab.specs.ManagerSteps.{Sent as AllSent}
 use Rattle.undo_plans.specs.declared.names.Names.{Names}
 use Rattle.undo_plans.specs.declared.plan.Plan.{Plan}
@@ -22,7 +22,7 @@ use Rattle.lab_run.specs.declared.frames.SentFrame.{SentFrame}
 use Rattle.model_lab.specs.Meaning.{lab_names}
 use Rattle.model_lab.specs.Played.{plans, fault_at, happens}
 use Rattle.lab_run.specs.FramesShown.{IsFrame}
-use Rattle.text_schedule.specs.declared.event.Event.{Event}
+use Rattle.text_lines.specs.declared.event.Event.{Event}
 use Rattle.lab_run.specs.declared.lab_state.Idles.{Idles}
 use Rattle.lab_run.specs.declared.lab_state.Lab.{Lab}
 use Rattle.lab_run.specs.declared.step.Refused.{Refused}

@@ -1,6 +1,6 @@
 //! Notes.
 use bmc_core::Disposition;
-use text_schedule::Event;
+use text_lines::Event;
 use two_wire::Bus;
 use undo_core::Phase;
 

@@ -7,7 +7,7 @@ use crate::frames::SentFrame;
 use crate::lab_state::Lab;
 use crate::note::Delivery;
 use bmc_core::Disposition;
-use text_schedule::Event;
+use text_lines::Event;
 use two_wire::Bus;
 
 impl Lab {

@@ -2,7 +2,7 @@
 ghost use Rattle.std.specs.Prelude.{◌≡◌, ◌≤◌, length};
 ghost use Rattle.two_wire.specs.Sizes.{most_message_bytes};
 ghost use Rattle.undo_plans.specs.declared.names.Names.{Names as AnyNames};
-ghost use Rattle.model_ports.specs.PortSteps.{asked_in};
+ghost use Rattle.bmc_core.specs.PortSteps.{asked_in};
 ghost use Rattle.model_lab.specs.Faults.{first_of, is_own, message_changes};
 ghost use Rattle.model_lab.specs.Meaning.{request_of};
 ghost use Rattle.lab_run.specs.Checked.{TellsNoise, TellsIdle, request_checks, message_checks};
@@ -15,7 +15,7 @@ use mctp_net::read_packet;
 use model_bus::PLDM_MESSAGE_TYPE;
 use model_lab::Fault;
 use pldm_base::{PldmBytes, read_pldm};
-use text_schedule::{OtherMessage, OtherRequest};
+use text_lines::{OtherMessage, OtherRequest};
 use two_wire::{Bus, Bytes};
 use undo_plans::Names;
 

@@ -7,7 +7,7 @@ ghost use Rattle.lab_run.specs.Parts.{part_of, part_at};
 use crate::frames::SentFrame;
 use crate::lab_state::Lab;
 use mctp_net::{Tag, read_packet};
-use text_schedule::Event;
+use text_lines::Event;
 use two_wire::Bus;
 
 /// A packet of the manager that comes to the controller's port on the System Management Bus.

@@ -3,11 +3,11 @@ ghost use Rattle.std.specs.Prelude.{◌≡◌, OnOk};
 ghost use Rattle.std.specs.List.{AllZip};
 ghost use Rattle.two_wire.specs.declared.Bus.TheVariants.{Smbus};
 ghost use Rattle.ipmb_frame.specs.Grammar.{IsRequest};
-ghost use Rattle.model_ports.specs.Values.{IsFrameOn};
+ghost use Rattle.bmc_core.specs.Values.{IsFrameOn};
 ghost use Rattle.model_lab.specs.Meaning.{other_wire, request_of};
 ghost use Rattle.lab_run.specs.Makes.{delivers, hears_request, hears_message, forgets};
 ghost use Rattle.lab_run.specs.Shown.{BecomesLab, StepUnlessMemory, CanCountOn, ForgetsOneMore, idles_in};
-ghost use Rattle.text_schedule.specs.declared.event.Event.TheVariants.{ToBmc};
+ghost use Rattle.text_lines.specs.declared.event.Event.TheVariants.{ToBmc};
 ghost use Rattle.lab_run.specs.Hearing.{EventResult, SendsOut, PortHears, HearsOther, StaysAtNoise, IgnoresNoise, packets_of};
 
 use crate::ages::FrameAge;
@@ -17,7 +17,7 @@ use ipmb_frame::{Header, Party, Request, write_request};
 use mctp_net::{Envelope, Message, SomeData, Tag, split};
 use model_lab::Way;
 use std::alloc::AllocError;
-use text_schedule::{OtherMessage, OtherRequest};
+use text_lines::{OtherMessage, OtherRequest};
 use two_wire::{Address, Bus, Data, Frame};
 use undo_plans::Names;
 

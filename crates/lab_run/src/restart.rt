@@ -1,7 +1,7 @@
 //! The manager's restart.
 ghost use Rattle.std.specs.Prelude.{◌≡◌, ◌≢◌, ◌<◌, IfOk, IfErr, Err};
 ghost use Rattle.two_wire.specs.Retries.{most_retries};
-ghost use Rattle.undo_journal.specs.Journals.{kept_in};
+ghost use Rattle.undo_plans.specs.Journals.{kept_in};
 ghost use Rattle.undo_core.specs.Shown.{IsRemade};
 ghost use Rattle.undo_core.specs.Journals.{kept_by};
 ghost use Rattle.lab_run.specs.Makes.{restarts};
@@ -12,7 +12,7 @@ use std::alloc::{AllocError, Global};
 use std::mem::replace;
 use text_journal::{JournalTextFault, read_journal, write_journal};
 use undo_core::{Manager, ResumeFault};
-use undo_journal::Journal;
+use undo_plans::Journal;
 
 /// The journal of a manager, written as its text and read again.
 fn kept_journal(alloc: Global, manager: &Manager) -> Result<Journal, AllocError>

@@ -11,7 +11,7 @@ use crate::others::{idle_fault, message_fault, noise_fault, request_fault};
 use bmc_board::Bench;
 use model_lab::{Fault, Way};
 use std::alloc::AllocError;
-use text_schedule::{BenchEvent, Event};
+use text_lines::{BenchEvent, Event};
 
 /// Why a lab doesn't take an event.
 #[derive(Clone, Copy, Debug, PartialEq, Eq)]

@@ -32,21 +32,21 @@ use Rattle.model_undo.specs.Machine.{count_of}
 use Rattle.model_undo.specs.Giving.{given_by}
 use Rattle.model_undo.specs.World as world
 use Rattle.model_undo.specs.World.{States, World, OnBus, update}
-use Rattle.model_ports.specs.Wires.{family_answer, reply_to, answered_from, asked_from}
-use Rattle.model_family.proofs.Board.{kept_by}
-use Rattle.model_family.proofs.IsFamily.{is_family}
+use Rattle.bmc_core.specs.Wires.{family_answer, reply_to, answered_from, asked_from}
+use Rattle.model_lab.proofs.Board.{kept_by}
+use Rattle.model_lab.proofs.IsFamily.{is_family}
 use Rattle.undo_plans.specs.declared.names.Names.{Names}
-use Rattle.model_ports.specs.Values.{Asks}
-use Rattle.model_ports.specs.Bytes.{heard_in, response_bytes, response_to, said, busy_on}
-use Rattle.model_ports.specs.PortSteps.{StepResult, asked_in, left_by, response_after, hears_request, turn, hears, stays}
-use Rattle.model_ports.specs.PortEvents.{answer_to}
+use Rattle.bmc_core.specs.Values.{Asks}
+use Rattle.bmc_core.specs.Bytes.{heard_in, response_bytes, response_to, said, busy_on}
+use Rattle.bmc_core.specs.PortSteps.{StepResult, asked_in, left_by, response_after, hears_request, turn, hears, stays}
+use Rattle.bmc_core.specs.PortEvents.{answer_to}
 use Rattle.model_lab.specs.ManagerSteps.{addresses, own_on}
 use Rattle.model_lab.specs.ManagerEvents.{HoldsReply}
 use Rattle.model_lab.specs.declared.way.Way.{Way}
 use Rattle.model_lab.specs.declared.way.Way.TheVariants.{ToManager, ToOthers}
 use Rattle.model_lab.specs.Lab.{LabFrame, Lab, port_does, frame_now, with_port}
 use Rattle.model_lab.specs.Honest.{IsAnother}
-use Rattle.model_ports.proofs.Spelling.{are_the_models}
+use Rattle.bmc_core.proofs.Spelling.{are_the_models}
 use Rattle.model_headline.specs.Each.{Each}
 use Rattle.model_headline.specs.Tied.{own_plans, own_family, own_lines, own_wires, ipmb_bus, rules_on, requests, HoldsAsked, IsHeldBy, IsHeld, IsAnswer, EntryAnswers, IsTied, world_of, IsGivenAnswer, WorldFollows}
 use Rattle.model_headline.specs.Follows.{HoldsInWorld}

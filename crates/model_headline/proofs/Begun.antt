@@ -17,7 +17,7 @@ use Rattle.model_undo.specs.Words.{Words}
 use Rattle.model_undo.specs.Wires.{number_of, IsMade}
 use Rattle.model_undo.specs.World as world
 use Rattle.model_undo.specs.World.{States}
-use Rattle.model_ports.specs.Wires.{bus_of, bytes_of}
+use Rattle.bmc_core.specs.Wires.{bus_of, bytes_of}
 use Rattle.model_lab.specs.ManagerWords.{manager_words}
 use Rattle.model_lab.proofs.Spelled.{are_spelled}
 use Rattle.undo_plans.specs.declared.names.Names.{Names}

@@ -15,7 +15,7 @@ use Rattle.model_undo.specs.Joined.{IsClosed, AreOpen}
 use Rattle.model_undo.specs.Giving.{GivenAnswer, given_at}
 use Rattle.model_undo.specs.World as world
 use Rattle.model_undo.specs.World.{States, World, Happening, Calls, OnBus, update}
-use Rattle.model_ports.specs.Wires.{bus_of}
+use Rattle.bmc_core.specs.Wires.{bus_of}
 use Rattle.undo_plans.specs.declared.names.Names.{Names}
 use Rattle.model_undo.specs.declared.call.Call.{Call}
 use Rattle.model_lab.specs.ManagerSteps.{goes_on, called}

@@ -7,13 +7,13 @@ use Rattle.bmc_board.specs.State.{State}
 use Rattle.bmc_board.specs.Answer.{AnswerAndState, answer_of}
 use Rattle.model_bus.specs.Request.{Request as Heard, Kept, Entry}
 use Rattle.model_bus.specs.Carried.{Outcome, Repeats, IsBusy, IsNew, outcome}
-use Rattle.model_ports.specs.PortSteps.{Turn, turn, PortState, StepResult}
-use Rattle.model_ports.specs.Turns.{TurnsBy}
-use Rattle.model_ports.proofs.Turning.{turns_by}
-use Rattle.bmc_history.specs.declared.event.Call.{Call}
-use Rattle.bmc_history.specs.declared.event.Call.TheVariants.{Exchanged}
-use Rattle.bmc_history.specs.declared.event.Event.{Event as BoardEvent}
-use Rattle.bmc_history.specs.Replay.{IsReplay}
+use Rattle.bmc_core.specs.PortSteps.{Turn, turn, PortState, StepResult}
+use Rattle.bmc_core.specs.Turns.{TurnsBy}
+use Rattle.bmc_core.proofs.Turning.{turns_by}
+use Rattle.bmc_shared.specs.declared.event.Call.{Call}
+use Rattle.bmc_shared.specs.declared.event.Call.TheVariants.{Exchanged}
+use Rattle.bmc_shared.specs.declared.event.Event.{Event as BoardEvent}
+use Rattle.bmc_shared.specs.Replay.{IsReplay}
 use Rattle.model_headline.specs.Histories.{IsExchange, CarriesOut}
 use Rattle.model_headline.proofs.Lists.{carries_none, carries_both, replays_both, at_seat, seats_both}
 

@@ -18,7 +18,7 @@ use Rattle.model_undo.specs.Plan as plans
 use Rattle.model_undo.specs.Machine as machine
 use Rattle.model_undo.specs.Headline as undo_headline
 use Rattle.model_lab.specs.WireLaws.{reply_read}
-use Rattle.model_ports.specs.Wires.{asked_from, answered_from}
+use Rattle.bmc_core.specs.Wires.{asked_from, answered_from}
 use Rattle.model_lab.specs.ManagerSteps.{addresses}
 use Rattle.model_lab.specs.Lab as lab
 use Rattle.model_headline.specs.Each.{Each}

@@ -14,7 +14,7 @@ use Rattle.record_base.specs.declared.message.Answered.{Answered}
 use Rattle.undo_plans.specs.declared.names.Names.{Names}
 use Rattle.model_bus.specs.Answered.{Answered as UndoAnswered}
 use Rattle.model_undo.specs.Machine as machine
-use Rattle.model_ports.specs.Bytes.{response_bytes}
+use Rattle.bmc_core.specs.Bytes.{response_bytes}
 use Rattle.model_lab.specs.WireLaws.{IsManagers, managers}
 use Rattle.model_lab.specs.ManagerSteps.{addresses}
 use Rattle.model_lab.specs.ManagerSteps as manager

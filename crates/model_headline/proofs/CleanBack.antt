@@ -23,9 +23,9 @@ use Rattle.bmc_board.proofs.AnswerFacts.{stays_sound}
 use Rattle.model_undo.specs.Family.{Family}
 use Rattle.model_undo.specs.Undoable.{LeadsBack, CanUndo}
 use Rattle.model_undo.specs.CleanSeries.{SeriesAnswered, AnswersAll, GoAll, AnswersEach}
-use Rattle.model_family.specs.Family.{answer, SetsWithin}
-use Rattle.model_family.proofs.IsFamily.{is_family}
-use Rattle.model_family.proofs.Board.{starts_valid}
+use Rattle.model_lab.specs.Family.{answer, SetsWithin}
+use Rattle.model_lab.proofs.IsFamily.{is_family}
+use Rattle.model_lab.proofs.Board.{starts_valid}
 use Rattle.model_lab.specs.ManagerSteps.{addresses}
 use Rattle.undo_plans.specs.declared.names.Names.{Names}
 use Rattle.model_headline.specs.Tied.{own_family}

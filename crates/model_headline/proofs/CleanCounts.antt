@@ -26,7 +26,7 @@ use Rattle.model_undo.specs.declared.phase.Phase.{Phase}
 use Rattle.model_undo.specs.Family.{Family}
 use Rattle.model_undo.specs.CleanSeries.{SeriesAnswered, AnswersAll, RefusesOne, CarriesSeries, GoAll, HaltsSeries, EndsIn, AnswersEach}
 use Rattle.model_lab.specs.ManagerWords.{from_manager, manager_words}
-use Rattle.model_family.specs.Family.{family, answer}
+use Rattle.model_lab.specs.Family.{family, answer}
 use Rattle.model_headline.specs.Made.{AllSeries}
 
 -- ---- a series ends

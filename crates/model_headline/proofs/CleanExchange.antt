@@ -22,18 +22,18 @@ use Rattle.model_undo.specs.Words.{is_busy}
 use Rattle.model_undo.specs.Wires.{number_of, IsMade}
 use Rattle.model_undo.specs.Machine.{Counts, Task, Part as TaskPart, Stage, Opened, Machine, Turn, enters, takes, reply_of, stage_after, undo_after, one_answered}
 use Rattle.model_undo.specs.Clean.{Moment}
-use Rattle.model_family.specs.Family.{answer}
-use Rattle.model_ports.specs.Wires.{bytes_of, reply_to}
+use Rattle.model_lab.specs.Family.{answer}
+use Rattle.bmc_core.specs.Wires.{bytes_of, reply_to}
 use Rattle.model_lab.specs.WireLaws.{managers, upper, lower}
 use Rattle.model_lab.proofs.Spelled.{are_spelled}
-use Rattle.model_family.proofs.IsFamily.{is_family}
+use Rattle.model_lab.proofs.IsFamily.{is_family}
 use Rattle.undo_plans.specs.declared.names.Names.{Names}
-use Rattle.model_ports.specs.Values.{Asks, Tells}
-use Rattle.model_ports.specs.Bytes.{heard_in, response_bytes, response_to}
-use Rattle.model_ports.specs.PortSteps.{PortState, StepResult, Turn as PortTurn, hears, hears_request, request_turn, response_after, spelled, asked_in, stays}
+use Rattle.bmc_core.specs.Values.{Asks, Tells}
+use Rattle.bmc_core.specs.Bytes.{heard_in, response_bytes, response_to}
+use Rattle.bmc_core.specs.PortSteps.{PortState, StepResult, Turn as PortTurn, hears, hears_request, request_turn, response_after, spelled, asked_in, stays}
 use Rattle.model_lab.specs.ManagerSteps.{addresses, ManagerState, ManagerStepResult, sent_of, goes_on, rests, taken_or, hears_reply, hears_response}
 use Rattle.model_lab.specs.declared.way.Way.TheVariants.{ToManager}
-use Rattle.model_ports.proofs.Turning.{turns_by}
+use Rattle.bmc_core.proofs.Turning.{turns_by}
 use Rattle.model_headline.specs.Tied.{own_plans, own_family, rules_on, ipmb_bus}
 use Rattle.model_headline.proofs.Sending.{from_zero}
 use Rattle.model_headline.proofs.CleanQueue.{due, Link, dues_of, port_goes, manager_goes, settles}

@@ -10,8 +10,8 @@ use Rattle.cfg_records.specs.declared.board_file.BoardFile.{BoardFile}
 use Rattle.model_bus.specs.Request.{idles_of}
 use Rattle.model_bus.specs.Circle.{span_of}
 use Rattle.model_undo.specs.Machine.{Stage, AtStart, Opened, AtEnd, AtHalt, AtUndone, AtRefused, Machine, bus_at, enters, count_of}
-use Rattle.model_ports.specs.Values.{Value}
-use Rattle.model_ports.specs.PortSteps.{hears}
+use Rattle.bmc_core.specs.Values.{Value}
+use Rattle.bmc_core.specs.PortSteps.{hears}
 use Rattle.model_lab.specs.ManagerSteps.{own_on, Plans, ManagerState, ManagerStepResult, Sent, goes_on, manager_hears}
 use Rattle.model_lab.specs.declared.way.Way.{Way}
 use Rattle.model_lab.specs.declared.way.Way.TheVariants.{ToPort, ToManager, ToOthers}

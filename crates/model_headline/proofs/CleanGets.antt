@@ -37,9 +37,9 @@ use Rattle.model_undo.proofs.Series.{is_of}
 use Rattle.model_undo.specs.CleanSeries.{SeriesAnswered, AnswersAll}
 use Rattle.model_lab.specs.ManagerWords.{from_manager}
 use Rattle.model_lab.specs.ManagerSteps.{addresses}
-use Rattle.model_family.specs.Family.{family, answer, ShowsWithin}
-use Rattle.model_family.proofs.IsFamily.{is_family}
-use Rattle.model_family.proofs.Gets.{Shown, first_given}
+use Rattle.model_lab.specs.Family.{family, answer, ShowsWithin}
+use Rattle.model_lab.proofs.IsFamily.{is_family}
+use Rattle.model_lab.proofs.Gets.{Shown, first_given}
 use Rattle.undo_plans.specs.declared.names.Names.{Names}
 use Rattle.model_headline.specs.CleanParts.{parts_of, get_count, TakesParts}
 use Rattle.model_headline.proofs.Series.{mapped}

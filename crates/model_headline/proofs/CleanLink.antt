@@ -30,10 +30,10 @@ use Rattle.model_undo.specs.Clean.{Moment, answered_in_all, after_turn, one, cle
 use Rattle.model_undo.specs.CleanSeries.{AnswersEach, RunsThrough}
 use Rattle.model_undo.proofs.CleanSeries.{always_runs_through}
 use Rattle.model_lab.specs.ManagerWords.{manager_words}
-use Rattle.model_family.specs.Family.{answer}
-use Rattle.model_family.proofs.IsFamily.{is_family}
-use Rattle.model_family.proofs.Board.{starts_valid, starts_ready}
-use Rattle.model_family.proofs.Finite.{are_finite}
+use Rattle.model_lab.specs.Family.{answer}
+use Rattle.model_lab.proofs.IsFamily.{is_family}
+use Rattle.model_lab.proofs.Board.{starts_valid, starts_ready}
+use Rattle.model_lab.proofs.Finite.{are_finite}
 use Rattle.undo_plans.specs.declared.names.Names.{Names}
 use Rattle.model_undo.specs.declared.call.Call.{Call}
 use Rattle.model_undo.specs.declared.call.Call.TheVariants.{Start as StartCall, Undo as UndoCall}

@@ -16,7 +16,7 @@ use Rattle.model_undo.specs.declared.phase.Phase.{Phase}
 use Rattle.model_undo.specs.declared.phase.Phase.TheVariants.{Halted}
 use Rattle.model_undo.specs.Undoable.{CanUndo}
 use Rattle.model_undo.specs.CleanSeries.{AnswersAll, GoAll, HaltsSeries, EndsIn}
-use Rattle.model_family.specs.Family.{answer}
+use Rattle.model_lab.specs.Family.{answer}
 use Rattle.model_lab.specs.ManagerSteps.{addresses}
 use Rattle.undo_plans.specs.declared.names.Names.{Names}
 use Rattle.model_headline.specs.Tied.{own_family}

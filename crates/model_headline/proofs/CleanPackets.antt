@@ -20,12 +20,12 @@ use Rattle.mctp_net.proofs.Wholes.{whole-passes, whole-fits, whole-one}
 use Rattle.cfg_records.specs.declared.board_file.BoardFile.{BoardFile}
 use Rattle.bmc_board.specs.State.{State}
 use Rattle.model_undo.specs.Machine.{Part as TaskPart}
-use Rattle.model_ports.specs.Values.{Part, parts_of}
-use Rattle.model_ports.specs.Cuts.{kept_after_parts}
-use Rattle.model_ports.specs.PortSteps.{PortState, StepResult, hears, hears_part, hears_message, ends_message, stays}
+use Rattle.bmc_core.specs.Values.{Part, parts_of}
+use Rattle.bmc_core.specs.Cuts.{kept_after_parts}
+use Rattle.bmc_core.specs.PortSteps.{PortState, StepResult, hears, hears_part, hears_message, ends_message, stays}
 use Rattle.model_lab.specs.ManagerSteps.{Plans, ManagerState, ManagerStepResult, heeded_on, open_count, is_part, rests, hears_reply, ends_reply, joins, joins_for, hears_packet}
 use Rattle.model_lab.specs.declared.way.Way.TheVariants.{ToPort, ToManager}
-use Rattle.model_ports.proofs.Parts.{parts_are_cuts}
+use Rattle.bmc_core.proofs.Parts.{parts_are_cuts}
 use Rattle.model_headline.proofs.CleanQueue.{Due, due, Link, port_goes, manager_goes, settles}
 use Rattle.model_headline.proofs.CleanFresh.{NoIdles, SendsNewest, Calm}
 

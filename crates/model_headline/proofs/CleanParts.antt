@@ -19,7 +19,7 @@ use Rattle.model_undo.specs.Words.{IsNext}
 use Rattle.model_undo.specs.Family.{Family}
 use Rattle.model_undo.specs.CleanSeries.{SeriesAnswered, AnswersAll, RefusesOne}
 use Rattle.model_lab.specs.ManagerWords.{from_manager}
-use Rattle.model_family.specs.Family.{family, answer}
+use Rattle.model_lab.specs.Family.{family, answer}
 use Rattle.model_headline.specs.CleanParts.{set_count}
 use Rattle.model_headline.proofs.Series.{mapped, part_is}
 

@@ -7,8 +7,8 @@ use Rattle.two_wire.specs.declared.Bus.TheVariants.{Ipmb, Smbus}
 use Rattle.cfg_records.specs.declared.board_file.BoardFile.{BoardFile}
 use Rattle.mctp_net.specs.Assembly.{is_ours}
 use Rattle.bmc_board.specs.State.{State}
-use Rattle.model_ports.specs.Values.{Value, Asks, Tells, Part}
-use Rattle.model_ports.specs.PortSteps.{PortState, StepResult, hears}
+use Rattle.bmc_core.specs.Values.{Value, Asks, Tells, Part}
+use Rattle.bmc_core.specs.PortSteps.{PortState, StepResult, hears}
 use Rattle.model_lab.specs.ManagerSteps.{Plans, ManagerState, ManagerStepResult, Sent, manager_hears}
 use Rattle.model_lab.specs.declared.way.Way.{Way}
 use Rattle.model_lab.specs.declared.way.Way.TheVariants.{ToPort, ToManager, ToOthers}

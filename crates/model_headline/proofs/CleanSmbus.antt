@@ -46,18 +46,18 @@ use Rattle.model_undo.specs.Wires.{number_of, IsMade}
 use Rattle.model_bus.specs.Addresses.{Addresses}
 use Rattle.model_undo.specs.Machine.{Task, Opened, Machine, enters, takes, reply_of, stage_after, undo_after, one_answered}
 use Rattle.model_lab.specs.ManagerWords.{from_manager, manager_words}
-use Rattle.model_family.specs.Family.{answer}
-use Rattle.model_ports.specs.Wires.{bytes_of, reply_to}
+use Rattle.model_lab.specs.Family.{answer}
+use Rattle.bmc_core.specs.Wires.{bytes_of, reply_to}
 use Rattle.model_lab.specs.WireLaws.{managers}
 use Rattle.model_lab.proofs.Spelled.{are_spelled}
 use Rattle.undo_plans.specs.declared.names.Names.{Names}
-use Rattle.model_ports.specs.Values.{Part, parts_of}
-use Rattle.model_ports.specs.Bytes.{pldm_heard_in, said}
-use Rattle.model_ports.specs.Cuts.{kept_after_parts}
-use Rattle.model_ports.specs.PortSteps.{StepResult, Turn as PortTurn, hears_message, hears_pldm, pldm_turn, pldm_asked, replies, spelled}
+use Rattle.bmc_core.specs.Values.{Part, parts_of}
+use Rattle.bmc_core.specs.Bytes.{pldm_heard_in, said}
+use Rattle.bmc_core.specs.Cuts.{kept_after_parts}
+use Rattle.bmc_core.specs.PortSteps.{StepResult, Turn as PortTurn, hears_message, hears_pldm, pldm_turn, pldm_asked, replies, spelled}
 use Rattle.model_lab.specs.ManagerSteps.{addresses, ManagerState, ManagerStepResult, goes_on, rests, taken_or, hears_reply, is_part}
-use Rattle.model_ports.proofs.Turning.{turns_by}
-use Rattle.model_ports.proofs.Parts.{parts_are_cuts}
+use Rattle.bmc_core.proofs.Turning.{turns_by}
+use Rattle.bmc_core.proofs.Parts.{parts_are_cuts}
 use Rattle.model_headline.specs.Tied.{own_plans, own_family, rules_on, smbus_bus}
 use Rattle.model_headline.proofs.Series.{mapped, part_is, alone_is, IsOfAll, made_so}
 use Rattle.model_headline.proofs.Sending.{made_type, from_zero}

@@ -12,8 +12,8 @@ use Rattle.cfg_records.specs.Records.{Records}
 use Rattle.record_kinds.specs.declared.limits.Limits.{Limits}
 use Rattle.record_kinds.specs.Limits.{key_of, limits_at, sets}
 use Rattle.record_kinds.specs.LimitsLaws as laws
-use Rattle.board_records.specs.declared.set_part.SetPart.TheVariants.{Start, Middle, End}
-use Rattle.board_records.specs.Stagings.{start_outcome, add_outcome, end_outcome}
+use Rattle.record_kinds.specs.declared.set_part.SetPart.TheVariants.{Start, Middle, End}
+use Rattle.record_kinds.specs.Stagings.{start_outcome, add_outcome, end_outcome}
 use Rattle.bmc_board.specs.Request.{Request, Live, Get, Set, SetStores, PartOfSet, LaterPart, asked_by}
 use Rattle.bmc_board.specs.State.{State}
 use Rattle.bmc_board.specs.Replies.{unknown_code}

@@ -8,7 +8,7 @@ use Rattle.cfg_records.specs.declared.board_file.BoardFile.{BoardFile}
 use Rattle.cfg_records.specs.Records.{Records}
 use Rattle.model_undo.specs.World.{States}
 use Rattle.undo_plans.specs.declared.names.Names.{Names}
-use Rattle.model_ports.specs.PortSteps.{hears}
+use Rattle.bmc_core.specs.PortSteps.{hears}
 use Rattle.model_lab.specs.Own.{JoinsOwn}
 use Rattle.model_lab.specs.Honest.{IsLive, IsDelivered}
 use Rattle.model_lab.specs.declared.way.Way.TheVariants.{ToPort, ToManager}

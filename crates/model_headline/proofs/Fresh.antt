@@ -37,7 +37,7 @@ use Rattle.model_undo.specs.World.{States, World, Happening}
 use Rattle.model_undo.specs.Headline.{IsStart, ShowsSame, PartsShowSame}
 use Rattle.model_undo.proofs.Headline.{opening_holds, stands_at, halts_at, undone_for_good}
 use Rattle.model_undo.proofs.TwoBuses.{packet_lines}
-use Rattle.model_family.proofs.IsFamily.{is_family}
+use Rattle.model_lab.proofs.IsFamily.{is_family}
 use Rattle.undo_plans.specs.declared.names.Names.{Names}
 use Rattle.model_lab.specs.ManagerSteps.{addresses}
 use Rattle.model_lab.specs.Lab.{Event, Calls, Lab, run}

@@ -14,9 +14,9 @@ use Rattle.cfg_records.specs.declared.board_file.BoardFile.{BoardFile}
 use Rattle.bmc_board.specs.State.{State}
 use Rattle.model_bus.specs.Numbering.{is_above}
 use Rattle.model_bus.specs.Request.{Kept}
-use Rattle.model_ports.specs.Bytes.{heard_in, pldm_heard_in}
-use Rattle.model_ports.specs.Values.{Value, Asks, Tells, Part, parts_of}
-use Rattle.model_ports.specs.PortSteps.{PortState, spelled, asked_in, pldm_asked, stays, hears, hears_all, hears_request, hears_control, hears_pldm, hears_typed, hears_message, ends_message, hears_part, hears_parts}
+use Rattle.bmc_core.specs.Bytes.{heard_in, pldm_heard_in}
+use Rattle.bmc_core.specs.Values.{Value, Asks, Tells, Part, parts_of}
+use Rattle.bmc_core.specs.PortSteps.{PortState, spelled, asked_in, pldm_asked, stays, hears, hears_all, hears_request, hears_control, hears_pldm, hears_typed, hears_message, ends_message, hears_part, hears_parts}
 use Rattle.model_headline.specs.Histories.{IsExchange}
 use Rattle.model_headline.proofs.Carrying.{DidAt, did_nothing, did_both, did_if, did_turn}
 

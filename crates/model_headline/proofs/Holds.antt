@@ -9,7 +9,7 @@ use Rattle.mctp_net.specs.Grammar.{bit}
 use Rattle.mctp_net.specs.Cut.{piece}
 use Rattle.mctp_net.specs.Assembly.{is_open}
 use Rattle.undo_plans.specs.declared.names.Names.{Names}
-use Rattle.model_ports.specs.Wires.{asked_from}
+use Rattle.bmc_core.specs.Wires.{asked_from}
 use Rattle.model_lab.specs.ManagerSteps.{addresses}
 use Rattle.model_headline.specs.Each.{Each}
 use Rattle.model_headline.specs.Frames.{Value, Asks, Tells, Part}

@@ -23,8 +23,8 @@ use Rattle.model_bus.proofs.Sound.{Fits}
 use Rattle.model_bus.proofs.Assemblies.{one_tag}
 use Rattle.model_undo.specs.World.{States}
 use Rattle.undo_plans.specs.declared.names.Names.{Names}
-use Rattle.model_ports.specs.Seen.{seen, AreSeen}
-use Rattle.model_ports.specs.Values.{Value, Asks, Tells, Part}
+use Rattle.bmc_core.specs.Seen.{seen, AreSeen}
+use Rattle.bmc_core.specs.Values.{Value, Asks, Tells, Part}
 use Rattle.model_lab.specs.Faults.{begun_on}
 use Rattle.model_lab.specs.Honest.{IsLive, IsDelivered}
 use Rattle.model_lab.specs.Own.{JoinsOwn, IsOwn}

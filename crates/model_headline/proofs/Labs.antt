@@ -15,9 +15,9 @@ use Rattle.cfg_records.specs.declared.board_file.BoardFile.{BoardFile}
 use Rattle.undo_plans.specs.declared.names.Names.{Names}
 use Rattle.pldm_base.specs.Message.{request_bytes}
 use Rattle.model_lab.specs.WireLaws.{IsManagers, managers}
-use Rattle.model_ports.specs.Values as values
+use Rattle.bmc_core.specs.Values as values
 use Rattle.model_lab.specs.ManagerSteps.{addresses}
-use Rattle.model_ports.specs.PortSteps as port
+use Rattle.bmc_core.specs.PortSteps as port
 use Rattle.model_lab.specs.ManagerSteps as manager
 use Rattle.model_lab.specs.Lab as lab
 use Rattle.model_headline.specs.Each.{Each}

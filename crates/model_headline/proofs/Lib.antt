@@ -1,3 +1,5 @@
+pub mod GreetingRequests
+pub mod LookRequests
 pub mod Each
 pub mod Made
 pub mod Series

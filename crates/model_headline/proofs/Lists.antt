@@ -6,9 +6,9 @@ use Rattle.std.proofs.lemmas.List.Elements.{All-nil, All-cons, filter-append}
 use Rattle.cfg_records.specs.declared.board_file.BoardFile.{BoardFile}
 use Rattle.bmc_board.specs.State.{State}
 use Rattle.model_bus.specs.Request.{Kept, Entry}
-use Rattle.bmc_history.specs.declared.event.Call.{Call}
-use Rattle.bmc_history.specs.declared.event.Event.{Event as BoardEvent}
-use Rattle.bmc_history.specs.Replay.{calls_of, after_call, IsReplay}
+use Rattle.bmc_shared.specs.declared.event.Call.{Call}
+use Rattle.bmc_shared.specs.declared.event.Event.{Event as BoardEvent}
+use Rattle.bmc_shared.specs.Replay.{calls_of, after_call, IsReplay}
 use Rattle.model_headline.specs.Histories.{all_carried, IsCall, CarriesOut}
 
 -- ---- what a port carried out

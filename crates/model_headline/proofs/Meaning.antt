@@ -25,7 +25,7 @@ use Rattle.model_undo.specs.Family as undo_family
 use Rattle.model_undo.specs.Plan as plans
 use Rattle.model_undo.specs.Machine as machine
 use Rattle.model_undo.specs.Headline as undo_headline
-use Rattle.model_family.specs.Family.{SetsWithin, conf_within}
+use Rattle.model_lab.specs.Family.{SetsWithin, conf_within}
 use Rattle.model_headline.specs.Tied.{own_family}
 use Rattle.model_headline.specs.Manager.{Gets, Sets, Undoes, Phase, Fresh, Open, Done, Halted, Undone, UndoRefused, sends}
 use Rattle.model_headline.specs.Claim.{ours, SetsTo, IsAfter, PhaseMeans, ShowsSame, ShowsSameParts}

@@ -34,21 +34,21 @@ use Rattle.model_bus.specs.PacketBus.{PacketBus, BusEnds, PacketEvent, OtherPack
 use Rattle.model_bus.proofs.Lists.{Grows}
 use Rattle.model_undo.specs.Machine.{count_of}
 use Rattle.model_undo.specs.World.{States, OnBus, OnBench, update}
-use Rattle.model_ports.specs.Wires.{family_answer}
-use Rattle.model_ports.specs.Seen.{seen, WaitsAlike}
-use Rattle.model_family.proofs.Board.{kept_by}
+use Rattle.bmc_core.specs.Wires.{family_answer}
+use Rattle.bmc_core.specs.Seen.{seen, WaitsAlike}
+use Rattle.model_lab.proofs.Board.{kept_by}
 use Rattle.undo_plans.specs.declared.names.Names.{Names}
-use Rattle.model_ports.specs.Values.{parts_of}
-use Rattle.model_ports.specs.Bytes.{pldm_heard_in}
-use Rattle.model_ports.specs.PortSteps.{PortState, StepResult, turn, spelled, left_by, pldm_asked, stays, hears_control, hears_pldm, hears_typed, hears_message, hears_part, hears_parts, ends_message, hears_all}
-use Rattle.model_ports.specs.PortEvents.{name_in, part_answer_to, event_by, happens_if, IsPortOf}
+use Rattle.bmc_core.specs.Values.{parts_of}
+use Rattle.bmc_core.specs.Bytes.{pldm_heard_in}
+use Rattle.bmc_core.specs.PortSteps.{PortState, StepResult, turn, spelled, left_by, pldm_asked, stays, hears_control, hears_pldm, hears_typed, hears_message, hears_part, hears_parts, ends_message, hears_all}
+use Rattle.bmc_core.specs.PortEvents.{name_in, part_answer_to, event_by, happens_if, IsPortOf}
 use Rattle.model_lab.specs.ManagerSteps.{addresses}
 use Rattle.model_lab.specs.Honest.{IsAnother, ChangesNothing}
 use Rattle.model_lab.specs.declared.way.Way.TheVariants.{ToOthers}
 use Rattle.model_lab.specs.Lab.{Lab, frame_now, with_port, port_does}
-use Rattle.model_ports.specs.Cuts.{is_for, has_slot, kept_with_parts}
-use Rattle.model_ports.proofs.PortEvents.{parts_leave_log}
-use Rattle.model_ports.proofs.Parts.{parts_are_heard}
+use Rattle.bmc_core.specs.Cuts.{is_for, has_slot, kept_with_parts}
+use Rattle.bmc_core.proofs.PortEvents.{parts_leave_log}
+use Rattle.bmc_core.proofs.Parts.{parts_are_heard}
 use Rattle.model_headline.specs.Each.{Each}
 use Rattle.model_headline.specs.Tied.{own_plans, own_lines, smbus_bus, rules_on, requests, IsHeld, IsAnswer, EntryAnswers, IsTied, WorldFollows}
 use Rattle.model_headline.proofs.Each.{each_append, each_map, each_by_place}

@@ -18,7 +18,7 @@ use Rattle.model_undo.specs.Machine.{Stage, AtStart, Opened, AtEnd, AtHalt, AtUn
 use Rattle.model_undo.specs.Joined.{IsClosed, AreOpen}
 use Rattle.model_undo.specs.World.{States, OnBus, OnBench, update}
 use Rattle.undo_plans.specs.declared.names.Names.{Names}
-use Rattle.model_ports.specs.PortSteps.{idles}
+use Rattle.bmc_core.specs.PortSteps.{idles}
 use Rattle.model_lab.specs.ManagerSteps.{own_on}
 use Rattle.model_lab.specs.Lab.{Lab, with_port, port_on}
 use Rattle.model_headline.specs.Each.{Each}

@@ -22,14 +22,14 @@ use Rattle.model_bus.specs.PacketEffect.{HasPacketEffect}
 use Rattle.model_bus.proofs.Cutting.{packets_cut}
 use Rattle.model_undo.specs.World.{States}
 use Rattle.model_undo.proofs.LineLaws.{effect}
-use Rattle.model_ports.specs.Seen.{seen, AgreesWithJoin}
-use Rattle.model_ports.proofs.PacketSteps.{takes-agrees}
+use Rattle.bmc_core.specs.Seen.{seen, AgreesWithJoin}
+use Rattle.bmc_core.proofs.PacketSteps.{takes-agrees}
 use Rattle.undo_plans.specs.declared.names.Names.{Names}
-use Rattle.model_ports.specs.Values.{Part}
-use Rattle.model_ports.specs.PortEvents.{name_in, part_answer_to, PartsAreEvents}
+use Rattle.bmc_core.specs.Values.{Part}
+use Rattle.bmc_core.specs.PortEvents.{name_in, part_answer_to, PartsAreEvents}
 use Rattle.model_lab.specs.Own.{JoinsOwn}
 use Rattle.model_lab.specs.Lab.{LabFrame, Lab, opens}
-use Rattle.model_ports.proofs.PortEvents.{parts_leave_log}
+use Rattle.bmc_core.proofs.PortEvents.{parts_leave_log}
 use Rattle.model_headline.specs.Tied.{own_plans, own_lines, smbus_bus, rules_on, HoldsAskedPart, IsTied, world_of}
 use Rattle.model_headline.specs.Follows.{HoldsInWorld}
 use Rattle.model_headline.proofs.Sending.{from_zero}

@@ -21,11 +21,11 @@ use Rattle.bmc_board.specs.Answer.{answer_of}
 use Rattle.undo_plans.specs.declared.names.Names.{Names}
 use Rattle.model_bus.specs.Request as bus
 use Rattle.model_bus.specs.Carried as bus_rule
-use Rattle.model_ports.specs.Wires.{asked_from, answered_from}
-use Rattle.model_ports.specs.Bytes.{said, response_to}
-use Rattle.model_ports.specs.Values as values
+use Rattle.bmc_core.specs.Wires.{asked_from, answered_from}
+use Rattle.bmc_core.specs.Bytes.{said, response_to}
+use Rattle.bmc_core.specs.Values as values
 use Rattle.model_lab.specs.ManagerSteps.{addresses}
-use Rattle.model_ports.specs.PortSteps as port
+use Rattle.bmc_core.specs.PortSteps as port
 use Rattle.model_headline.specs.Each.{Each}
 use Rattle.model_headline.proofs.Each.{each_append}
 use Rattle.model_headline.specs.Frames.{Value, Asks, Tells, Part, envelope, packets_of, is_taken, waits_after, whole}

@@ -7,8 +7,8 @@ use Rattle.record_kinds.specs.Series.{Reads, sends}
 use Rattle.cfg_records.specs.declared.board_file.BoardFile.{BoardFile}
 use Rattle.cfg_records.specs.Records.{Records}
 use Rattle.model_undo.specs.declared.call.Call.TheVariants as call
-use Rattle.text_schedule.specs.declared.event.Event.{Event}
-use Rattle.text_schedule.specs.declared.event.Event.TheVariants.{Calls}
+use Rattle.text_lines.specs.declared.event.Event.{Event}
+use Rattle.text_lines.specs.declared.event.Event.TheVariants.{Calls}
 use Rattle.bmc_board.specs.Decode.{sent_by}
 use Rattle.bmc_board.specs.Answer.{AnswerAndState}
 use Rattle.bmc_board.proofs.OneAnswer.{has_one_answer}

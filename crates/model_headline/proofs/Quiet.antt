@@ -23,12 +23,12 @@ use Rattle.model_undo.specs.Line.{exchange, carried_at}
 use Rattle.model_undo.specs.Giving.{given_by}
 use Rattle.model_undo.specs.World as world
 use Rattle.model_undo.specs.World.{States, World, OnBus, update}
-use Rattle.model_ports.specs.Seen.{WaitsAlike}
-use Rattle.model_ports.proofs.PacketSteps.{first_of}
+use Rattle.bmc_core.specs.Seen.{WaitsAlike}
+use Rattle.bmc_core.proofs.PacketSteps.{first_of}
 use Rattle.undo_plans.specs.declared.names.Names.{Names}
-use Rattle.model_ports.specs.Values.{Part}
-use Rattle.model_ports.specs.PortSteps.{StepResult, PortState, hears_part, ends_message, stays}
-use Rattle.model_ports.specs.PortEvents.{name_in, event_by, happens_if, IsPortOf}
+use Rattle.bmc_core.specs.Values.{Part}
+use Rattle.bmc_core.specs.PortSteps.{StepResult, PortState, hears_part, ends_message, stays}
+use Rattle.bmc_core.specs.PortEvents.{name_in, event_by, happens_if, IsPortOf}
 use Rattle.model_lab.specs.Own.{JoinsOwn}
 use Rattle.model_lab.specs.declared.way.Way.TheVariants.{ToManager}
 use Rattle.model_lab.specs.Lab.{LabFrame, Lab, with_port, frame_now, port_does}

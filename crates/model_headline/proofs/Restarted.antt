@@ -24,7 +24,7 @@ use Rattle.model_undo.specs.World.{States, World, Happening}
 use Rattle.model_undo.specs.Headline.{ShowsSame, PartsShowSame}
 use Rattle.model_undo.proofs.Headline.{stands_at, halts_at, undone_for_good}
 use Rattle.model_undo.proofs.TwoBuses.{packet_lines}
-use Rattle.model_family.proofs.IsFamily.{is_family}
+use Rattle.model_lab.proofs.IsFamily.{is_family}
 use Rattle.undo_plans.specs.declared.names.Names.{Names}
 use Rattle.model_undo.specs.declared.call.Call.TheVariants.{Stop as StopCall}
 use Rattle.model_lab.specs.ManagerSteps.{addresses}

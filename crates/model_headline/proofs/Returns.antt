@@ -28,8 +28,8 @@ use Rattle.model_undo.specs.World.{States, World, ToManager, update}
 use Rattle.model_undo.proofs.Buses.{cases_bus}
 use Rattle.model_undo.proofs.LineLaws.{effect}
 use Rattle.model_undo.proofs.TwoBuses.{packet_lines}
-use Rattle.model_ports.specs.Wires.{answered_from, bytes_of}
-use Rattle.model_ports.specs.Seen.{WaitsAlike}
+use Rattle.bmc_core.specs.Wires.{answered_from, bytes_of}
+use Rattle.bmc_core.specs.Seen.{WaitsAlike}
 use Rattle.undo_plans.specs.declared.names.Names.{Names}
 use Rattle.model_lab.specs.ManagerSteps.{ManagerState, ManagerStepResult, rests, taken_or, heeded_on, open_count, open_bytes, is_answer, is_part, joins, joins_for, goes_on, hears_response, hears_packet, manager_hears}
 use Rattle.model_lab.specs.ManagerEvents.{takes_if, IsOpenOn, IsManagerOf, IsRepliesResponse, IsRepliesPart, BringsPart, name_awaited}

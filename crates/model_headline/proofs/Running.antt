@@ -13,19 +13,19 @@ use Rattle.bmc_board.specs.State.{on_bench as left_by_bench}
 use Rattle.bmc_board.specs.Sensing.{bench_of}
 use Rattle.bmc_board.proofs.SensingFacts.{benched_so as bench_leaves}
 use Rattle.model_bus.specs.Request.{Entry}
-use Rattle.model_ports.specs.Values.{Value, Asks, Tells, Part}
-use Rattle.model_ports.specs.PortSteps.{PortState, StepResult, idles, hears, hears_all}
-use Rattle.text_schedule.specs.declared.event.Event.{Event}
-use Rattle.text_schedule.specs.declared.event.Event.TheVariants as event
+use Rattle.bmc_core.specs.Values.{Value, Asks, Tells, Part}
+use Rattle.bmc_core.specs.PortSteps.{PortState, StepResult, idles, hears, hears_all}
+use Rattle.text_lines.specs.declared.event.Event.{Event}
+use Rattle.text_lines.specs.declared.event.Event.TheVariants as event
 use Rattle.model_lab.specs.declared.way.Way.{Way}
 use Rattle.model_lab.specs.declared.way.Way.TheVariants.{ToManager, ToOthers}
 use Rattle.model_lab.specs.ManagerSteps.{ManagerStepResult, Sent, called, manager_hears}
 use Rattle.model_lab.specs.Lab.{LabFrame, Lab, port_on, with_port, sends, manager_does, call_does, port_does, opens, delivered, returned, step}
 use Rattle.model_lab.specs.Meaning.{lab_names, request_of, message_of, on_board}
 use Rattle.model_lab.specs.Played.{plans, happens, after}
-use Rattle.bmc_history.specs.declared.event.Call.{Call}
-use Rattle.bmc_history.specs.declared.event.Event.{Event as BoardEvent}
-use Rattle.bmc_history.specs.Replay.{calls_of, IsReplay}
+use Rattle.bmc_shared.specs.declared.event.Call.{Call}
+use Rattle.bmc_shared.specs.declared.event.Event.{Event as BoardEvent}
+use Rattle.bmc_shared.specs.Replay.{calls_of, IsReplay}
 use Rattle.model_headline.specs.Histories.{all_carried, CarriesOut, benched, on_bench, IsDone, HasHistory}
 use Rattle.model_headline.proofs.Lists.{carries_none, carries_both, replays_both, calls_both, at_seat, own, none_of, all_seated}
 use Rattle.model_headline.proofs.Carrying.{DidAt}

@@ -35,18 +35,18 @@ use Rattle.model_bus.proofs.Cutting.{cuts_all}
 use Rattle.model_undo.specs.Wires.{number_of, IsMade}
 use Rattle.model_bus.specs.Addresses.{Addresses}
 use Rattle.model_undo.specs.World.{States}
-use Rattle.model_ports.specs.Wires.{bus_of, bytes_of, reply_to}
+use Rattle.bmc_core.specs.Wires.{bus_of, bytes_of, reply_to}
 use Rattle.model_lab.specs.ManagerWords.{from_manager, manager_words}
 use Rattle.model_bus.specs.Answered.{Answered}
 use Rattle.model_lab.proofs.Spelled.{are_spelled}
 use Rattle.model_lab.specs.WireLaws.{managers, read_back, upper, lower}
-use Rattle.model_ports.specs.Seen.{seen, seen_name}
+use Rattle.bmc_core.specs.Seen.{seen, seen_name}
 use Rattle.undo_plans.specs.declared.names.Names.{Names}
-use Rattle.model_ports.specs.Values.{Value, Part, parts_of}
+use Rattle.bmc_core.specs.Values.{Value, Part, parts_of}
 use Rattle.model_lab.specs.ManagerSteps.{addresses, values_of}
 use Rattle.model_lab.specs.declared.way.Way.TheVariants.{ToPort}
 use Rattle.model_lab.specs.Lab.{LabFrame}
-use Rattle.model_ports.proofs.Parts.{parts_are_cuts}
+use Rattle.bmc_core.proofs.Parts.{parts_are_cuts}
 use Rattle.model_headline.specs.Each.{Each}
 use Rattle.model_headline.proofs.Each.{each_map, each_by_place}
 use Rattle.model_headline.proofs.Series.{mapped, alone_is, IsOfAll, made_so}

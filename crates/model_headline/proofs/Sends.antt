@@ -12,7 +12,7 @@ use Rattle.record_base.specs.declared.message.Asked.TheVariants.{Ipmi, Pldm}
 use Rattle.undo_plans.specs.declared.names.Names.{Names}
 use Rattle.model_bus.specs.Request as bus
 use Rattle.model_undo.specs.Machine as machine
-use Rattle.model_ports.specs.Values as values
+use Rattle.bmc_core.specs.Values as values
 use Rattle.model_lab.specs.ManagerSteps as manager
 use Rattle.model_lab.specs.Lab as lab
 use Rattle.pldm_base.specs.Message.{request_bytes}

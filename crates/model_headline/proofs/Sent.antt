@@ -10,17 +10,17 @@ use Rattle.model_bus.specs.BusState.{BusState, Frame, Ask}
 use Rattle.model_bus.specs.Repeat.{In}
 use Rattle.model_bus.specs.Assembly.{SentPacket}
 use Rattle.model_bus.specs.PacketBus.{BusEnds, request_name}
-use Rattle.model_ports.specs.Seen.{WaitsAlike}
+use Rattle.bmc_core.specs.Seen.{WaitsAlike}
 use Rattle.model_bus.specs.Answering.{AreWritten}
 use Rattle.model_bus.specs.Bytes.{IsRequestOn}
 use Rattle.model_bus.proofs.Lists.{Grows, grows, at_end}
 use Rattle.model_undo.specs.Machine.{count_of}
 use Rattle.model_undo.specs.Wires.{number_of, IsMade}
 use Rattle.model_undo.specs.World.{States, update}
-use Rattle.model_ports.specs.Wires.{bus_of, bytes_of}
+use Rattle.bmc_core.specs.Wires.{bus_of, bytes_of}
 use Rattle.model_lab.specs.ManagerWords.{manager_words}
 use Rattle.undo_plans.specs.declared.names.Names.{Names}
-use Rattle.model_ports.specs.PortEvents.{IsPortOf}
+use Rattle.bmc_core.specs.PortEvents.{IsPortOf}
 use Rattle.model_lab.specs.ManagerSteps.{addresses, values_of, own_on}
 use Rattle.model_lab.specs.declared.way.Way.TheVariants.{ToPort}
 use Rattle.model_lab.specs.Lab.{Lab, idles_on, with_frames}

@@ -7,7 +7,7 @@ use Rattle.model_undo.specs.declared.phase.Phase.TheVariants as told_phase
 use Rattle.model_undo.specs.Machine.{phase_at, phase_of}
 use Rattle.model_lab.specs.Lab as lab
 use Rattle.model_lab.specs.Lab.{run, opening}
-use Rattle.text_schedule.specs.declared.event.Event.{Event}
+use Rattle.text_lines.specs.declared.event.Event.{Event}
 use Rattle.model_lab.specs.Meaning.{lab_names}
 use Rattle.model_lab.specs.Played.{plans, happens, after, AreTaken, told_of}
 use Rattle.model_headline.specs.Theorem as law

@@ -13,8 +13,8 @@ use Rattle.ipmb_frame.specs.declared.message.Request.{Request}
 use Rattle.mctp_net.specs.declared.message.Message.{Message}
 use Rattle.bmc_board.specs.declared.activity.Activity.{Activity}
 use Rattle.bmc_board.specs.State.{on_bench}
-use Rattle.model_ports.specs.Values.{Asks}
-use Rattle.model_ports.specs.PortSteps.{hears, hears_all, idles}
+use Rattle.bmc_core.specs.Values.{Asks}
+use Rattle.bmc_core.specs.PortSteps.{hears, hears_all, idles}
 use Rattle.model_lab.specs.declared.way.Way.TheVariants.{ToOthers}
 use Rattle.model_lab.specs.Lab.{Calls, ToBmc, ToMgr, OtherIpmb, OtherSmbus, Noise, Idles, OnBench, Lab, step, call_does, port_does, with_port, port_on, delivered, returned}
 use Rattle.model_headline.specs.Tied.{own_plans, WorldFollows}

@@ -15,10 +15,10 @@ use Rattle.model_bus.specs.Bytes.{answers}
 use Rattle.model_bus.specs.Answered.{Answered}
 use Rattle.model_undo.specs.Words.{is_busy, Words}
 use Rattle.model_undo.specs.Machine.{Stage, AtStart, Opened, AtEnd, AtHalt, AtUndone, AtRefused, Machine, Part as TaskPart, Turn, sending, rests as machine_rests, starts, undoes, quiets, agains, replies, takes, call_of, reply_of}
-use Rattle.model_ports.specs.Wires.{answered_from}
-use Rattle.model_ports.specs.Values.{Value, Asks, Tells, Part}
-use Rattle.model_ports.specs.Bytes.{response_bytes}
-use Rattle.model_ports.specs.PortSteps.{PortState, StepResult, hears, hears_all, idles}
+use Rattle.bmc_core.specs.Wires.{answered_from}
+use Rattle.bmc_core.specs.Values.{Value, Asks, Tells, Part}
+use Rattle.bmc_core.specs.Bytes.{response_bytes}
+use Rattle.bmc_core.specs.PortSteps.{PortState, StepResult, hears, hears_all, idles}
 use Rattle.model_undo.specs.declared.call.Call.{Call}
 use Rattle.model_undo.specs.declared.call.Call.TheVariants.{Start, Quiet, Stop, Again, Undo}
 use Rattle.model_lab.specs.ManagerSteps.{Plans, ManagerState, ManagerStepResult, Sent, rests, goes_on, waits_after, called, heeded_on, open_bytes, taken_or, tested, hears_reply, hears_response, ends_reply, joins, joins_for, hears_packet, manager_hears, is_answer, is_part, open_count}

@@ -27,9 +27,9 @@ use Rattle.model_undo.specs.Headline as undo_headline
 use Rattle.model_undo.proofs.Headline.{parts_show_same}
 use Rattle.model_lab.specs.Lab as lab
 use Rattle.model_lab.specs.ManagerSteps.{addresses}
-use Rattle.model_family.specs.Family.{SetsWithin, conf_within}
-use Rattle.model_family.proofs.IsFamily.{is_family}
-use Rattle.model_family.proofs.Board.{starts_valid}
+use Rattle.model_lab.specs.Family.{SetsWithin, conf_within}
+use Rattle.model_lab.proofs.IsFamily.{is_family}
+use Rattle.model_lab.proofs.Board.{starts_valid}
 use Rattle.model_headline.specs.Each.{Each}
 use Rattle.model_headline.specs.Tied.{own_family}
 use Rattle.model_headline.specs.Answers as answers

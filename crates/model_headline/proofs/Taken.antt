@@ -23,9 +23,9 @@ use Rattle.model_undo.specs.World.{States}
 use Rattle.model_undo.proofs.Buses.{each_bus}
 use Rattle.model_undo.proofs.World.{count_here, count_there}
 use Rattle.model_undo.proofs.Joined.{Joined, told}
-use Rattle.model_ports.specs.Wires.{answered_from}
-use Rattle.model_family.proofs.IsFamily.{is_family}
-use Rattle.model_ports.specs.Seen.{WaitsAlike}
+use Rattle.bmc_core.specs.Wires.{answered_from}
+use Rattle.model_lab.proofs.IsFamily.{is_family}
+use Rattle.bmc_core.specs.Seen.{WaitsAlike}
 use Rattle.undo_plans.specs.declared.names.Names.{Names}
 use Rattle.model_lab.specs.ManagerSteps.{goes_on, open_count, sent_of}
 use Rattle.model_lab.specs.ManagerEvents.{name_awaited}

@@ -32,8 +32,8 @@ use Rattle.model_undo.specs.Headline.{IsStart, ShowsSame, PartsShowSame}
 use Rattle.model_undo.proofs.World.{run_holds}
 use Rattle.model_undo.proofs.Headline.{opening_holds, stands_at, halts_at, undone_for_good}
 use Rattle.model_undo.proofs.TwoBuses.{packet_lines}
-use Rattle.model_family.proofs.IsFamily.{is_family}
-use Rattle.model_family.proofs.Board.{starts_valid, starts_ready}
+use Rattle.model_lab.proofs.IsFamily.{is_family}
+use Rattle.model_lab.proofs.Board.{starts_valid, starts_ready}
 use Rattle.undo_plans.specs.declared.names.Names.{Names}
 use Rattle.model_undo.specs.declared.call.Call.TheVariants.{Stop as StopCall}
 use Rattle.model_lab.specs.ManagerSteps.{addresses}

@@ -33,21 +33,21 @@ use Rattle.model_undo.specs.Line.{exchange}
 use Rattle.model_undo.specs.Giving.{given_by}
 use Rattle.model_undo.specs.World as world
 use Rattle.model_undo.specs.World.{States, World, OnBus}
-use Rattle.model_ports.specs.Wires.{family_answer, reply_to, asked_from}
-use Rattle.model_family.proofs.IsFamily.{is_family}
-use Rattle.model_ports.specs.Seen.{seen_name, AgreesWithJoin}
-use Rattle.model_ports.proofs.WholeBytes.{whole-bytes}
+use Rattle.bmc_core.specs.Wires.{family_answer, reply_to, asked_from}
+use Rattle.model_lab.proofs.IsFamily.{is_family}
+use Rattle.bmc_core.specs.Seen.{seen_name, AgreesWithJoin}
+use Rattle.bmc_core.proofs.WholeBytes.{whole-bytes}
 use Rattle.undo_plans.specs.declared.names.Names.{Names}
-use Rattle.model_ports.specs.Values.{Value, Part, parts_of}
-use Rattle.model_ports.specs.Bytes.{pldm_heard_in, said, busy_on}
-use Rattle.model_ports.specs.PortSteps.{StepResult, PortState, spelled, left_by, pldm_asked, reply_envelope, replies, hears_pldm, hears_typed, hears_message, hears_part, ends_message, stays, hears, turn}
-use Rattle.model_ports.specs.PortEvents.{name_in, event_by, message_answer_to, pldm_answer_to, IsPortOf}
+use Rattle.bmc_core.specs.Values.{Value, Part, parts_of}
+use Rattle.bmc_core.specs.Bytes.{pldm_heard_in, said, busy_on}
+use Rattle.bmc_core.specs.PortSteps.{StepResult, PortState, spelled, left_by, pldm_asked, reply_envelope, replies, hears_pldm, hears_typed, hears_message, hears_part, ends_message, stays, hears, turn}
+use Rattle.bmc_core.specs.PortEvents.{name_in, event_by, message_answer_to, pldm_answer_to, IsPortOf}
 use Rattle.model_lab.specs.ManagerSteps.{addresses, own_on}
 use Rattle.model_lab.specs.ManagerEvents.{HoldsPart}
 use Rattle.model_lab.specs.Own.{JoinsOwn}
 use Rattle.model_lab.specs.declared.way.Way.TheVariants.{ToManager}
 use Rattle.model_lab.specs.Lab.{LabFrame, Lab, frame_now, port_does, opens}
-use Rattle.model_ports.proofs.Spelling.{are_the_models}
+use Rattle.bmc_core.proofs.Spelling.{are_the_models}
 use Rattle.model_headline.specs.Each.{Each}
 use Rattle.model_headline.specs.Tied.{own_plans, own_family, own_lines, own_wires, rules_on, HoldsAskedPart, IsHeld, IsHeldBy, EntryAnswers, IsTied, world_of, IsGivenAnswer, WorldFollows}
 use Rattle.model_headline.specs.Follows.{HoldsInWorld}

@@ -12,9 +12,9 @@ use Rattle.model_undo.specs.declared.phase.Why.TheVariants.{Stop, Refused, NotRe
 use Rattle.model_undo.specs.declared.phase.Phase.{Phase}
 use Rattle.model_undo.specs.declared.phase.Phase.TheVariants.{Halted}
 use Rattle.model_undo.specs.Family.{Family}
-use Rattle.model_family.specs.Family.{family}
+use Rattle.model_lab.specs.Family.{family}
 use Rattle.undo_plans.specs.declared.names.Names.{Names}
-use Rattle.model_ports.specs.Wires.{asked_from, reply_to}
+use Rattle.bmc_core.specs.Wires.{asked_from, reply_to}
 use Rattle.model_lab.specs.ManagerSteps.{own_on, addresses, board_plans}
 use Rattle.model_lab.specs.Lab.{Lab, port_on}
 

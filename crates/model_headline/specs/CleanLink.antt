@@ -13,7 +13,7 @@ use Rattle.model_undo.specs.Plan.{IsAfter}
 use Rattle.model_undo.specs.Machine.{open_bus}
 use Rattle.model_undo.specs.Undoable.{CanUndo}
 use Rattle.model_undo.specs.CleanSeries.{GoAll, EndsIn, AnswersEach}
-use Rattle.model_family.specs.Family.{answer}
+use Rattle.model_lab.specs.Family.{answer}
 use Rattle.undo_plans.specs.declared.names.Names.{Names}
 use Rattle.undo_plans.specs.Steps.{most_steps}
 use Rattle.model_lab.specs.Lab.{Event}

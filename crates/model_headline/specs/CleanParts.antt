@@ -16,7 +16,7 @@ use Rattle.bmc_board.specs.State.{State}
 use Rattle.model_undo.specs.Family.{AllValid}
 use Rattle.model_undo.specs.Undoable.{CanUndo}
 use Rattle.model_undo.specs.CleanSeries.{AnswersAll, GoAll}
-use Rattle.model_family.specs.Family.{answer}
+use Rattle.model_lab.specs.Family.{answer}
 use Rattle.undo_plans.specs.declared.names.Names.{Names}
 use Rattle.model_headline.specs.Tied.{own_family}
 

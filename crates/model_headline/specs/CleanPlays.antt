@@ -9,7 +9,7 @@ use Rattle.model_lab.specs.Lab as lab
 use Rattle.model_lab.specs.Lab.{Lab, opening}
 use Rattle.model_lab.specs.Faults.{begun_on}
 use Rattle.model_lab.specs.Clean.{IsCleanRun, IsCleanUndo}
-use Rattle.text_schedule.specs.declared.event.Event.{Event}
+use Rattle.text_lines.specs.declared.event.Event.{Event}
 use Rattle.model_lab.specs.Meaning.{lab_names, event_of}
 use Rattle.model_lab.specs.Played.{plans, Told, Ending, Whole, happens, after, IsPlayed}
 use Rattle.model_headline.specs.Tied.{own_family}

@@ -12,7 +12,7 @@ use Rattle.model_bus.proofs.Cutting.{packets_cut}
 use Rattle.model_undo.specs.World.{States, World}
 use Rattle.model_undo.proofs.World.{WorldHolds}
 use Rattle.model_undo.proofs.TwoBuses.{packet_lines}
-use Rattle.model_family.proofs.IsFamily.{is_family}
+use Rattle.model_lab.proofs.IsFamily.{is_family}
 use Rattle.undo_plans.specs.declared.names.Names.{Names}
 use Rattle.model_undo.specs.declared.call.Call.{Call}
 use Rattle.model_lab.specs.ManagerSteps.{addresses, remade}

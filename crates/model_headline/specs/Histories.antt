@@ -11,16 +11,16 @@ use Rattle.bmc_board.specs.State.{State}
 use Rattle.bmc_board.specs.Sensing.{bench_of}
 use Rattle.model_bus.specs.Bytes.{ipmb_request, pldm_request}
 use Rattle.model_bus.specs.Request.{Kept, Entry, Carried, Idled}
-use Rattle.model_ports.specs.Wires.{bus_of, reply_to, family_answer}
-use Rattle.text_schedule.specs.declared.event.Event.{Event}
-use Rattle.text_schedule.specs.declared.event.Event.TheVariants.{OnBench}
+use Rattle.bmc_core.specs.Wires.{bus_of, reply_to, family_answer}
+use Rattle.text_lines.specs.declared.event.Event.{Event}
+use Rattle.text_lines.specs.declared.event.Event.TheVariants.{OnBench}
 use Rattle.model_lab.specs.Lab.{Lab}
 use Rattle.model_lab.specs.Meaning.{on_board}
 use Rattle.model_lab.specs.Played.{plans, happens, after}
-use Rattle.bmc_history.specs.declared.event.Call.{Call}
-use Rattle.bmc_history.specs.declared.event.Call.TheVariants.{Exchanged, Benched}
-use Rattle.bmc_history.specs.declared.event.Event.{Event as BoardEvent}
-use Rattle.bmc_history.specs.Replay.{calls_of, IsReplay}
+use Rattle.bmc_shared.specs.declared.event.Call.{Call}
+use Rattle.bmc_shared.specs.declared.event.Call.TheVariants.{Exchanged, Benched}
+use Rattle.bmc_shared.specs.declared.event.Event.{Event as BoardEvent}
+use Rattle.bmc_shared.specs.Replay.{calls_of, IsReplay}
 
 -- ---- what a port carried out, by its log
 

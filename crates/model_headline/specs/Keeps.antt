@@ -2,7 +2,7 @@
 use Rattle.std.specs.Prelude.{ℕ, List, [], length}
 use Rattle.record_base.specs.declared.op.Op.{Op}
 use Rattle.cfg_records.specs.declared.board_file.BoardFile.{BoardFile}
-use Rattle.text_schedule.specs.declared.event.Event.{Event}
+use Rattle.text_lines.specs.declared.event.Event.{Event}
 use Rattle.model_lab.specs.Played.{Ending, IsPlayed}
 use Rattle.model_headline.specs.Plays.{taken_by, told_by, AllKeepPremise, lab_after}
 use Rattle.model_headline.specs.Promise.{Promise}

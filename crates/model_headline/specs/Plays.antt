@@ -14,8 +14,8 @@ use Rattle.model_lab.specs.Lab.{Lab, opening}
 use Rattle.model_lab.specs.Own.{IsOwn}
 use Rattle.model_lab.specs.Joins.{IsJoinLive}
 use Rattle.model_undo.specs.declared.call.Call.TheVariants.{Stop}
-use Rattle.text_schedule.specs.declared.event.Event.{Event}
-use Rattle.text_schedule.specs.declared.event.Event.TheVariants.{Calls}
+use Rattle.text_lines.specs.declared.event.Event.{Event}
+use Rattle.text_lines.specs.declared.event.Event.TheVariants.{Calls}
 use Rattle.model_lab.specs.Meaning.{lab_names, event_of}
 use Rattle.model_lab.specs.Played.{plans, Told, Ending, Whole, Stops, happens, after, IsPlayed}
 use Rattle.model_headline.specs.Answers.{AnswerGiven, CausedBy}

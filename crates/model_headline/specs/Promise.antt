@@ -13,8 +13,8 @@ use Rattle.bmc_board.specs.Decode.{sent_by}
 use Rattle.bmc_board.specs.Answer.{answer_of}
 use Rattle.undo_plans.specs.Showing.{shown_by}
 use Rattle.model_undo.specs.declared.call.Call.TheVariants as call
-use Rattle.text_schedule.specs.declared.event.Event.{Event}
-use Rattle.text_schedule.specs.declared.event.Event.TheVariants.{Calls}
+use Rattle.text_lines.specs.declared.event.Event.{Event}
+use Rattle.text_lines.specs.declared.event.Event.TheVariants.{Calls}
 use Rattle.model_undo.specs.declared.phase.Why.{Why}
 use Rattle.model_undo.specs.declared.phase.Why.TheVariants.{Stop, Refused, NotRestorable, GetRefused}
 use Rattle.model_undo.specs.declared.phase.Phase.{Phase}

@@ -13,9 +13,9 @@ use Rattle.model_bus.specs.Request as bus
 use Rattle.model_bus.specs.Answered.{Answered as UndoAnswered}
 use Rattle.model_undo.specs.Words.{Words}
 use Rattle.model_undo.specs.Machine as machine
-use Rattle.model_ports.specs.Wires.{reply_to}
-use Rattle.model_ports.specs.Values as values
-use Rattle.model_ports.specs.PortSteps as port
+use Rattle.bmc_core.specs.Wires.{reply_to}
+use Rattle.bmc_core.specs.Values as values
+use Rattle.bmc_core.specs.PortSteps as port
 use Rattle.model_lab.specs.ManagerSteps as manager
 use Rattle.model_lab.specs.ManagerSteps.{Plans, board_plans}
 use Rattle.model_lab.specs.Lab as lab

@@ -26,18 +26,18 @@ use Rattle.model_undo.specs.Wires.{Wires}
 use Rattle.model_undo.specs.TwoBuses.{with_packets}
 use Rattle.model_undo.specs.World.{States, World, Happening, AllMay, run}
 use Rattle.model_undo.specs.Giving.{GivenAnswer, given_in}
-use Rattle.model_family.specs.Family.{family}
-use Rattle.model_ports.specs.Wires.{asked_from, reply_to}
+use Rattle.model_lab.specs.Family.{family}
+use Rattle.bmc_core.specs.Wires.{asked_from, reply_to}
 use Rattle.model_lab.specs.ManagerWires.{wires}
-use Rattle.model_ports.specs.Seen.{WaitsAlike}
+use Rattle.bmc_core.specs.Seen.{WaitsAlike}
 use Rattle.undo_plans.specs.declared.names.Names.{Names}
-use Rattle.model_ports.specs.Values.{Asks, Tells, Part}
-use Rattle.model_ports.specs.Bytes.{heard_in, pldm_heard_in, response_bytes, response_to}
+use Rattle.bmc_core.specs.Values.{Asks, Tells, Part}
+use Rattle.bmc_core.specs.Bytes.{heard_in, pldm_heard_in, response_bytes, response_to}
 use Rattle.pldm_base.specs.declared.message.PldmRequest.{PldmRequest}
 use Rattle.pldm_base.specs.Message.{request_in as pldm_request_in}
-use Rattle.model_ports.specs.PortSteps.{asked_in, pldm_asked}
+use Rattle.bmc_core.specs.PortSteps.{asked_in, pldm_asked}
 use Rattle.model_lab.specs.ManagerSteps.{Plans, addresses, board_plans, is_answer, open_count}
-use Rattle.model_ports.specs.PortEvents.{name_in, IsPortOf, IsManagersPart}
+use Rattle.bmc_core.specs.PortEvents.{name_in, IsPortOf, IsManagersPart}
 use Rattle.model_lab.specs.ManagerEvents.{HoldsReply, HoldsPart, name_awaited}
 use Rattle.model_headline.specs.Each.{Each}
 use Rattle.model_headline.specs.Made.{MachineMade}

@@ -2,7 +2,7 @@
 
 ghost use Rattle.std.specs.Prelude.{List};
 ghost use Rattle.cfg_records.specs.declared.board_file.BoardFile.{BoardFile};
-ghost use Rattle.text_schedule.specs.declared.event.Event.{Event};
+ghost use Rattle.text_lines.specs.declared.event.Event.{Event};
 ghost use Rattle.model_lab.specs.Lab.{Lab};
 ghost use Rattle.model_lab.specs.Played.{plans};
 ghost use Rattle.model_headline.specs.Histories.{HasHistory};

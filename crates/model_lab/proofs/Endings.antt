@@ -3,7 +3,7 @@ use Rattle.std.proofs.Common.{◌≡◌, ◌+◌, List, [], ◌∷◌, ◌++◌,
 use Rattle.cfg_records.specs.declared.board_file.BoardFile.{BoardFile}
 use Rattle.model_lab.specs.Lab.{Lab}
 use Rattle.model_lab.specs.declared.fault.Fault.{Fault}
-use Rattle.text_schedule.specs.declared.event.Event.{Event}
+use Rattle.text_lines.specs.declared.event.Event.{Event}
 use Rattle.model_lab.specs.Played.{plans, Ending, Whole, Stops, fault_at, happens, after, AreTaken, told_of, PlaysFrom}
 
 module _ (file : BoardFile) where

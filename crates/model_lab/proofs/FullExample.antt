@@ -5,8 +5,8 @@ use Rattle.std.proofs.lemmas.Bool.Decides.{nat_tests}
 use Rattle.std.proofs.lemmas.List.{length-map}
 use Rattle.two_wire.specs.declared.Bus.TheVariants.{Ipmb}
 use Rattle.undo_plans.specs.declared.names.Names.{Names}
-use Rattle.model_ports.specs.Values.{Asks}
-use Rattle.model_ports.specs.PortSteps.{StepResult, stays, hears, hears_request}
+use Rattle.bmc_core.specs.Values.{Asks}
+use Rattle.bmc_core.specs.PortSteps.{StepResult, stays, hears, hears_request}
 use Rattle.model_lab.specs.declared.way.Way.TheVariants.{ToOthers}
 use Rattle.model_lab.specs.Lab.{Lab, frame_now, with_port, port_does, step, run}
 use Rattle.model_lab.specs.declared.fault.Fault.{Fault}

@@ -7,3 +7,13 @@ pub mod ManagerEvents
 pub mod PacketExample
 pub mod FullExample
 pub mod Endings
+pub mod Parts
+pub mod Accepted
+pub mod Requests
+pub mod Gets
+pub mod Sets
+pub mod Ready
+pub mod IsFamily
+pub mod Finite
+pub mod Board
+pub mod FamilyExample

@@ -28,14 +28,14 @@ use Rattle.model_bus.specs.Packet.{Packet as ModelPacket}
 use Rattle.model_bus.proofs.Answering.{busy_fails}
 use Rattle.model_undo.specs.Machine.{Part as TaskPart, reply_of}
 use Rattle.model_undo.specs.Line.{brings_whole, brings_packets, brought_at}
-use Rattle.model_ports.specs.Wires.{answered_from}
-use Rattle.model_ports.specs.Seen.{seen, WaitsAlike, AgreesWithJoin, model_after}
-use Rattle.model_ports.proofs.PacketSteps.{first_of, takes-agrees}
-use Rattle.model_ports.proofs.Waiting.{waits-alike}
-use Rattle.model_ports.proofs.WholeBytes.{whole-bytes}
-use Rattle.model_ports.specs.Bytes.{response_bytes}
+use Rattle.bmc_core.specs.Wires.{answered_from}
+use Rattle.bmc_core.specs.Seen.{seen, WaitsAlike, AgreesWithJoin, model_after}
+use Rattle.bmc_core.proofs.PacketSteps.{first_of, takes-agrees}
+use Rattle.bmc_core.proofs.Waiting.{waits-alike}
+use Rattle.bmc_core.proofs.WholeBytes.{whole-bytes}
+use Rattle.bmc_core.specs.Bytes.{response_bytes}
 use Rattle.model_lab.specs.ManagerSteps.{Plans, ManagerState, is_answer, is_part, rests, taken_or, heeded_on, open_count, open_bytes, tested, hears_reply, hears_response, ends_reply, joins, joins_for, hears_packet}
-use Rattle.model_ports.specs.PortEvents.{name_in}
+use Rattle.bmc_core.specs.PortEvents.{name_in}
 use Rattle.model_lab.specs.ManagerEvents.{SaysBusy, HoldsReply, HoldsPart, name_awaited, IsRepliesResponse, IsRepliesPart, takes_if, IsOpenOn, IsManagerOf, BringsResponse, BringsPart, RepliesAreBrought}
 
 -- ---- the test

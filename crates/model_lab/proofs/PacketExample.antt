@@ -2,7 +2,7 @@
 use Rattle.std.proofs.Common.{refl}
 use Rattle.record_base.specs.Masks.{is_within}
 use Rattle.record_base.specs.Sensor.Thresholds.{is_in_order, is_clear}
-use Rattle.model_ports.specs.PortSteps.{turn, hears_request, hears_message, hears_part, hears_parts}
+use Rattle.bmc_core.specs.PortSteps.{turn, hears_request, hears_message, hears_part, hears_parts}
 use Rattle.model_lab.specs.ManagerSteps.{called, hears_response, hears_packet}
 use Rattle.model_lab.specs.Lab.{step, run}
 use Rattle.model_lab.specs.PacketExample.{SetsInPackets, TakesPackets}

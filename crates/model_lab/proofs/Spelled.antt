@@ -7,7 +7,7 @@ use Rattle.model_bus.specs.Bytes.{ipmb_reply, pldm_reply, IsRequestOn, IsReplyOn
 use Rattle.model_bus.specs.Answered.{Answered}
 use Rattle.model_bus.specs.Addresses.{Addresses}
 use Rattle.model_undo.specs.Wires.{number_of}
-use Rattle.model_ports.specs.Wires.{bus_of, bytes_of, reply_to}
+use Rattle.bmc_core.specs.Wires.{bus_of, bytes_of, reply_to}
 use Rattle.model_lab.specs.WireLaws.{IsManagers, managers, upper, lower}
 use Rattle.model_lab.specs.Spelled.{AreSpelled}
 

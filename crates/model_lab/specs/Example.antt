@@ -27,7 +27,7 @@ use Rattle.record_base.specs.ThresholdLaws.{tests_pass}
 use Rattle.model_undo.specs.declared.phase.Phase.{Phase}
 use Rattle.model_undo.specs.declared.phase.Phase.TheVariants.{Done, Undone, Unsettled}
 use Rattle.model_undo.specs.Machine.{phase_of}
-use Rattle.model_ports.specs.Values.{written}
+use Rattle.bmc_core.specs.Values.{written}
 use Rattle.undo_plans.specs.declared.names.Names.{Names}
 use Rattle.model_undo.specs.declared.call.Call.TheVariants.{Start, Quiet, Again, Undo}
 use Rattle.model_lab.specs.ManagerSteps.{Plans, board_plans}

@@ -15,7 +15,7 @@ use Rattle.model_undo.specs.Words.{Words}
 use Rattle.model_undo.specs.Machine.{Machine, count_of, open_bus, same_bus}
 use Rattle.model_lab.specs.declared.fault.Fault.{Fault}
 use Rattle.model_lab.specs.declared.fault.Fault.TheVariants.{NoFrame, WrongWay, Aged, Changing, Impersonates, Forged, StillOpen, Room}
-use Rattle.model_ports.specs.PortSteps.{asked_in, pldm_asked}
+use Rattle.bmc_core.specs.PortSteps.{asked_in, pldm_asked}
 use Rattle.undo_plans.specs.declared.names.Names.{Names}
 use Rattle.model_lab.specs.ManagerSteps.{own_on, peer_on, Plans}
 use Rattle.model_lab.specs.declared.way.Way.{Way}

@@ -13,7 +13,7 @@ use Rattle.model_bus.specs.Bytes.{pldm_message_type}
 use Rattle.model_bus.specs.Circle.{span_of}
 use Rattle.bmc_board.specs.Table.{is_changing}
 use Rattle.model_undo.specs.Machine.{open_bus}
-use Rattle.model_ports.specs.PortSteps.{asked_in, pldm_asked}
+use Rattle.bmc_core.specs.PortSteps.{asked_in, pldm_asked}
 use Rattle.undo_plans.specs.declared.names.Names.{Names}
 use Rattle.model_lab.specs.ManagerSteps.{own_on, peer_on, Plans}
 use Rattle.model_lab.specs.declared.way.Way.{Way}

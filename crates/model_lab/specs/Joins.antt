@@ -4,7 +4,7 @@ use Rattle.two_wire.specs.declared.Bus.TheVariants.{Smbus}
 use Rattle.mctp_net.specs.Assembly.{drop_cause}
 use Rattle.model_bus.specs.Circle.{span_of}
 use Rattle.cfg_records.specs.declared.board_file.BoardFile.{BoardFile}
-use Rattle.model_ports.specs.Values.{Value, Asks, Tells, Part}
+use Rattle.bmc_core.specs.Values.{Value, Asks, Tells, Part}
 use Rattle.model_lab.specs.ManagerSteps.{Plans}
 use Rattle.model_lab.specs.Lab.{Event, ToBmc, Lab, step}
 use Rattle.model_lab.specs.Faults.{begun_on}

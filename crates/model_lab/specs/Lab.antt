@@ -12,8 +12,8 @@ use Rattle.bmc_board.specs.State.{State, on_bench, opened as opened_board}
 use Rattle.model_undo.specs.Machine.{opened as opened_machine}
 use Rattle.model_lab.specs.declared.way.Way.{Way}
 use Rattle.model_lab.specs.declared.way.Way.TheVariants.{ToPort, ToManager, ToOthers}
-use Rattle.model_ports.specs.Values.{Value, Asks, Tells, Part}
-use Rattle.model_ports.specs.PortSteps.{PortState, StepResult, hears, hears_all, idles, quiet_port}
+use Rattle.bmc_core.specs.Values.{Value, Asks, Tells, Part}
+use Rattle.bmc_core.specs.PortSteps.{PortState, StepResult, hears, hears_all, idles, quiet_port}
 use Rattle.undo_plans.specs.declared.names.Names.{Names}
 use Rattle.model_undo.specs.declared.call.Call.{Call}
 use Rattle.model_lab.specs.ManagerSteps.{own_on, Plans, ManagerState, ManagerStepResult, Sent, called, manager_hears}

@@ -19,3 +19,7 @@ pub mod FullExample
 pub mod Meaning
 pub mod Played
 pub mod PlayExample
+pub mod Family
+pub mod Board
+pub mod FamilyExample
+pub mod PartsExample

@@ -9,8 +9,8 @@ use Rattle.record_base.specs.declared.key.Key.TheVariants as key
 use Rattle.record_base.specs.declared.op.Op.{Op}
 use Rattle.bmc_board.specs.State.{opened}
 use Rattle.model_undo.specs.declared.phase.Phase.TheVariants.{Getting}
-use Rattle.model_ports.specs.Values.{Value, Asks, Tells, Part, written, parts_of}
-use Rattle.model_ports.specs.PortSteps.{hears, quiet_port}
+use Rattle.bmc_core.specs.Values.{Value, Asks, Tells, Part, written, parts_of}
+use Rattle.bmc_core.specs.PortSteps.{hears, quiet_port}
 use Rattle.model_undo.specs.declared.call.Call.TheVariants.{Start}
 use Rattle.model_lab.specs.declared.way.Way.{Way}
 use Rattle.model_lab.specs.declared.way.Way.TheVariants.{ToPort, ToManager, ToOthers}

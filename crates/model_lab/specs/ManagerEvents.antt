@@ -17,12 +17,12 @@ use Rattle.model_bus.specs.PacketBus.{PacketBus, rules_of, reply_name, BusEnds, 
 use Rattle.model_bus.specs.PacketEffect.{HasPacketEffect}
 use Rattle.model_undo.specs.Machine.{Part as TaskPart, reply_of}
 use Rattle.model_undo.specs.Line.{brings_whole, brings_packets}
-use Rattle.model_ports.specs.Wires.{answered_from}
-use Rattle.model_ports.specs.Seen.{seen, WaitsAlike}
+use Rattle.bmc_core.specs.Wires.{answered_from}
+use Rattle.bmc_core.specs.Seen.{seen, WaitsAlike}
 use Rattle.undo_plans.specs.declared.names.Names.{Names}
-use Rattle.model_ports.specs.Bytes.{response_bytes}
+use Rattle.bmc_core.specs.Bytes.{response_bytes}
 use Rattle.model_lab.specs.ManagerSteps.{Plans, ManagerState, ManagerStepResult, is_answer, rests, taken_or, heeded_on, open_count, open_bytes, hears_response, hears_packet}
-use Rattle.model_ports.specs.PortEvents.{name_in}
+use Rattle.bmc_core.specs.PortEvents.{name_in}
 
 -- the bytes are a reply which says that the port is busy
 abbrev pub SaysBusy : Bus → List ℕ → Type 0

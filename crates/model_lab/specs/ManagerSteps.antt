@@ -19,10 +19,10 @@ use Rattle.model_undo.specs.Wires.{number_of}
 use Rattle.model_bus.specs.Addresses.{Addresses}
 use Rattle.model_undo.specs.declared.call.Call.{Call}
 use Rattle.model_undo.specs.declared.call.Call.TheVariants.{Undo}
-use Rattle.model_ports.specs.Wires.{bus_of, bytes_of, answered_from}
+use Rattle.bmc_core.specs.Wires.{bus_of, bytes_of, answered_from}
 use Rattle.model_lab.specs.ManagerWords.{manager_words}
-use Rattle.model_ports.specs.Values.{Value, Asks, Tells, Part, parts_of}
-use Rattle.model_ports.specs.Bytes.{response_bytes}
+use Rattle.bmc_core.specs.Values.{Value, Asks, Tells, Part, parts_of}
+use Rattle.bmc_core.specs.Bytes.{response_bytes}
 
 -- the byte by which a port knows the manager as a requester on a bus
 abbrev pub own_on : Bus → Names → ℕ

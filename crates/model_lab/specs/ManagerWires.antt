@@ -3,7 +3,7 @@ use Rattle.two_wire.specs.declared.Bus.{Bus}
 use Rattle.model_bus.specs.Addresses.{Addresses}
 use Rattle.model_undo.specs.Wires.{Wires}
 use Rattle.model_lab.specs.ManagerWords.{manager_words}
-use Rattle.model_ports.specs.Wires.{bytes_of, asked_from, reply_to, answered_from}
+use Rattle.bmc_core.specs.Wires.{bytes_of, asked_from, reply_to, answered_from}
 use Rattle.model_lab.specs.WireLaws.{managers, read_back, reply_read}
 
 -- how the manager's requests and the board's replies are bytes

@@ -10,7 +10,7 @@ use Rattle.record_kinds.specs.Limits.{key_of, inverse}
 use Rattle.record_kinds.specs.Series.{Series, Reads, Sends, sends, first_of, next_after}
 use Rattle.undo_plans.specs.Showing.{shown_by}
 use Rattle.bmc_board.specs.Decode.{sent_by}
-use Rattle.model_ports.specs.Wires.{bus_of}
+use Rattle.bmc_core.specs.Wires.{bus_of}
 use Rattle.model_undo.specs.Words.{Words}
 use Rattle.model_bus.specs.Addresses.{Addresses}
 

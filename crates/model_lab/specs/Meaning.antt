@@ -9,12 +9,12 @@ use Rattle.bmc_board.specs.declared.bench.Bench.{Bench}
 use Rattle.bmc_board.specs.declared.bench.Bench.TheVariants as bench
 use Rattle.two_wire.specs.Places.{controller_wire, controller_eid}
 use Rattle.undo_plans.specs.declared.names.Names.{Names}
-use Rattle.text_schedule.specs.declared.event.OtherRequest.{OtherRequest}
-use Rattle.text_schedule.specs.declared.event.OtherMessage.{OtherMessage}
-use Rattle.text_schedule.specs.declared.event.BenchEvent.{BenchEvent}
-use Rattle.text_schedule.specs.declared.event.BenchEvent.TheVariants.{Scan, Tick}
-use Rattle.text_schedule.specs.declared.event.Event.{Event}
-use Rattle.text_schedule.specs.declared.event.Event.TheVariants as event
+use Rattle.text_lines.specs.declared.event.OtherRequest.{OtherRequest}
+use Rattle.text_lines.specs.declared.event.OtherMessage.{OtherMessage}
+use Rattle.text_lines.specs.declared.event.BenchEvent.{BenchEvent}
+use Rattle.text_lines.specs.declared.event.BenchEvent.TheVariants.{Scan, Tick}
+use Rattle.text_lines.specs.declared.event.Event.{Event}
+use Rattle.text_lines.specs.declared.event.Event.TheVariants as event
 use Rattle.model_lab.specs.Lab.{Event as LabEvent, Calls, ToBmc, ToMgr, OtherIpmb, OtherSmbus, Noise, Idles, OnBench}
 
 -- the lab's names: the manager, and the controller

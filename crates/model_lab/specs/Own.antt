@@ -2,7 +2,7 @@
 use Rattle.std.specs.Prelude.{◌≡◌, ℕ, false, List, [], ◌∷◌, None, slice_get, IfSome}
 use Rattle.mctp_net.specs.Assembly.{drop_cause}
 use Rattle.cfg_records.specs.declared.board_file.BoardFile.{BoardFile}
-use Rattle.model_ports.specs.Values.{Value, Asks, Tells, Part}
+use Rattle.bmc_core.specs.Values.{Value, Asks, Tells, Part}
 use Rattle.model_lab.specs.ManagerSteps.{Plans}
 use Rattle.model_lab.specs.Lab.{Event, ToBmc, Lab, step}
 

@@ -11,8 +11,8 @@ use Rattle.model_undo.specs.declared.phase.Why.TheVariants.{Refused}
 use Rattle.model_undo.specs.declared.phase.Phase.{Phase}
 use Rattle.model_undo.specs.declared.phase.Phase.TheVariants.{Getting, Setting, Halted}
 use Rattle.model_undo.specs.Machine.{Sets, begun, phase_of}
-use Rattle.model_ports.specs.Wires.{bus_of}
-use Rattle.model_ports.specs.Values.{Value, Asks, Tells, Part, parts_of}
+use Rattle.bmc_core.specs.Wires.{bus_of}
+use Rattle.bmc_core.specs.Values.{Value, Asks, Tells, Part, parts_of}
 use Rattle.model_undo.specs.declared.call.Call.TheVariants.{Start, Quiet}
 use Rattle.model_lab.specs.ManagerSteps.{Plans}
 use Rattle.model_lab.specs.declared.way.Way.TheVariants.{ToManager}

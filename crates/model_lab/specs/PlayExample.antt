@@ -5,8 +5,8 @@ use Rattle.record_base.specs.declared.key.Key.TheVariants as key
 use Rattle.model_undo.specs.declared.phase.Phase.TheVariants.{Undone}
 use Rattle.model_lab.specs.Example.{board_file, two_steps}
 use Rattle.model_undo.specs.declared.call.Call.TheVariants.{Start, Undo}
-use Rattle.text_schedule.specs.declared.event.Event.{Event}
-use Rattle.text_schedule.specs.declared.event.Event.TheVariants.{Calls, ToBmc, ToMgr}
+use Rattle.text_lines.specs.declared.event.Event.{Event}
+use Rattle.text_lines.specs.declared.event.Event.TheVariants.{Calls, ToBmc, ToMgr}
 use Rattle.model_lab.specs.Played.{Told, Whole, IsPlayed}
 
 -- a request's frame of this number comes to the port, and its reply to the manager

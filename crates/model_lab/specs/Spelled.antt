@@ -6,7 +6,7 @@ use Rattle.model_bus.specs.Bytes.{IsRequestOn, IsReplyOn}
 use Rattle.model_bus.specs.Answered.{Answered}
 use Rattle.model_bus.specs.Addresses.{Addresses}
 use Rattle.model_undo.specs.Wires.{number_of, IsMade}
-use Rattle.model_ports.specs.Wires.{bus_of, bytes_of, reply_to}
+use Rattle.bmc_core.specs.Wires.{bus_of, bytes_of, reply_to}
 use Rattle.model_lab.specs.ManagerWords.{manager_words}
 
 -- the bytes of the manager's requests are requests under their numbers, and the bytes of a reply to a request are a reply to it, with the answer's code

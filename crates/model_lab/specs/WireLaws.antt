@@ -14,7 +14,7 @@ use Rattle.bmc_board.proofs.SeriesFacts.{series_are_from_nobody}
 use Rattle.model_bus.specs.Answered.{Answered}
 use Rattle.model_bus.specs.Addresses.{Addresses}
 use Rattle.model_undo.specs.Wires.{IsSeries, IsOneOf, IsMade}
-use Rattle.model_ports.specs.Wires.{bus_of, bytes_of, asked_from, reply_to, answered_from}
+use Rattle.bmc_core.specs.Wires.{bus_of, bytes_of, asked_from, reply_to, answered_from}
 use Rattle.model_lab.specs.ManagerWords.{from_manager, manager_words}
 
 -- the request is the manager's, to logical unit 0

@@ -6,7 +6,7 @@ ghost use Rattle.cfg_records.specs.declared.board_file.BoardFile.{BoardFile};
 ghost use Rattle.record_base.specs.declared.op.Op.{Op};
 ghost use Rattle.model_bus.specs.Addresses.{Addresses};
 ghost use Rattle.undo_plans.specs.declared.names.Names.{Names};
-ghost use Rattle.text_schedule.specs.declared.event.Event.{Event};
+ghost use Rattle.text_lines.specs.declared.event.Event.{Event};
 ghost use Rattle.model_lab.specs.Spelled.{AreSpelled};
 ghost use Rattle.model_lab.specs.ManagerSteps.{board_plans};
 ghost use Rattle.model_lab.specs.Honest.{FaultsAreBreaches};

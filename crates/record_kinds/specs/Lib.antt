@@ -10,3 +10,12 @@ pub mod Lans
 pub mod Places
 pub mod Sound
 pub mod SoundLaws
+pub mod PartData
+pub mod Entries
+pub mod Stagings
+pub mod StagingsLaws
+pub mod Replies
+pub mod Gives
+pub mod Sets
+pub mod SetParts
+pub mod Keeps

@@ -1,7 +1,7 @@
 //! The boards that stories are told of.
+use crate::sample::SAMPLE;
 use cfg_records::{BoardFile, sample_board};
 use std::alloc::{AllocError, Global};
-use story_lines::SAMPLE;
 use text_board::{FileFault, TOP, read_board};
 
 /// What stands behind a line's word, where the line is one of the board's.

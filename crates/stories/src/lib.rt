@@ -1,5 +1,5 @@
-//! The player of stories: what comes to a board and its two ports, and what they do, told as lines of text. `docs/STORIES.md` has the
-//! language.
+//! The player of stories: what comes to a scene, told as lines of text, with what comes of it. One player plays them on scenes of any kind; the scene
+//! here is a board with its two ports. `docs/STORIES.md` has the language.
 #![tactic(auto)]
 
 mod board_lines;
@@ -10,11 +10,18 @@ mod damage_lines;
 mod fixture;
 mod lan;
 mod line;
+mod player;
 mod port_lines;
 mod request;
+mod sample;
+mod scene;
 mod story;
 mod window_lines;
+mod words;
 
 pub use board_lines::asks;
 pub use boards::board_of;
+pub use player::report_of;
+pub use sample::SAMPLE;
+pub use scene::{NoOutcome, NoScene, Scene};
 pub use story::{open_sample, play};

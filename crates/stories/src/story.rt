@@ -6,12 +6,13 @@ use crate::change_lines::{change, undo};
 use crate::damage_lines::{Damage, damaged};
 use crate::fixture::{Fixture, open_around};
 use crate::line::Word;
+use crate::player::report_of;
 use crate::port_lines::{Heard, hears, idle};
+use crate::scene::{NoOutcome, NoScene, Scene};
 use crate::window_lines::window;
 use bmc_board::{Board, Records};
 use cfg_records::{BoardFile, sample_board};
 use std::alloc::{AllocError, Global};
-use story_lines::{NoOutcome, NoScene, Scene, report_of};
 use text_board::FileFault;
 
 /// A board, and what is around it.
@@ -111,7 +112,7 @@ pub fn open_sample(alloc: Global) -> Result<Board<Records>, AllocError> {
     Board::of_file(alloc, sample_board(alloc)?)
 }
 
-/// Plays the stories of the text, each on a fresh board with fresh ports, and gives what `story_lines::report_of` reports: nothing where
+/// Plays the stories of the text, each on a fresh board with fresh ports, and gives what `stories::report_of` reports: nothing where
 /// all comes as told.
 pub fn play(alloc: Global, text: &str) -> Result<String, AllocError> {
     report_of::<Controller>(alloc, text)

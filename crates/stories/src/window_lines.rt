@@ -1,6 +1,6 @@
 //! Lines of the windows in which ports keep requests with their replies, apart from any port.
 use crate::bytes::{bytes_of, push_digits};
-use bmc_windows::{Found, Request, Windows};
+use bmc_core::{Found, WindowRequest, Windows};
 use std::alloc::{AllocError, Global};
 use two_wire::Below;
 
@@ -24,14 +24,14 @@ pub fn open_windows(alloc: Global) -> Result<WindowPair, AllocError> {
 }
 
 /// The request of these bytes: its requester, its number, and at least one byte of its own.
-fn request_in<const NUMBERS: u8>(bytes: &[u8]) -> Option<Request<'_, NUMBERS>> {
+fn request_in<const NUMBERS: u8>(bytes: &[u8]) -> Option<WindowRequest<'_, NUMBERS>> {
     let [requester, number, first, rest @ ..] = bytes else {
         return None;
     };
     if *number >= NUMBERS {
         return None;
     }
-    Some(Request {
+    Some(WindowRequest {
         requester: *requester,
         number: Below::new(*number),
         first: *first,

@@ -3,9 +3,9 @@ use app_apply::{Applied, ApplyWords, Outcome, Reach, apply_json, apply_text};
 use app_journal::{Standing, WriteFault, revive_text};
 use app_run::Unanswered;
 use record_base::Key;
+use report_words::{Names, id_string};
 use std::alloc::Global;
 use std::process::Abort;
-use table_names::{Names, id_string};
 use two_wire::Bus;
 use undo_core::Manager;
 

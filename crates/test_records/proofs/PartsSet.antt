@@ -13,14 +13,14 @@ use Rattle.record_base.specs.BiosAttribute.{setting}
 use Rattle.cfg_records.specs.declared.board_file.BoardFile.{BoardFile}
 use Rattle.cfg_records.specs.Records.{Records}
 use Rattle.bios_attr.specs.declared.bios_attribute.AttributeLimits.{AttributeLimits}
-use Rattle.board_records.specs.Stagings.{StagedParts, start_outcome}
+use Rattle.record_kinds.specs.Stagings.{StagedParts, start_outcome}
 use Rattle.record_kinds.specs.declared.limits.Limits.{Limits}
 use Rattle.record_kinds.specs.declared.limits.Limits.TheVariants as limits
 use Rattle.record_kinds.specs.Limits.{limits_at}
-use Rattle.board_records.specs.Keeps.{settable}
-use Rattle.board_records.specs.Replies.{unknown_code}
-use Rattle.board_records.specs.Sets.{outcome_among, set_outcome, set_given, records_set, live_set}
-use Rattle.board_records.specs.SetParts.{SetGiven, limits_named, staged_given, ends_staging}
+use Rattle.record_kinds.specs.Keeps.{settable}
+use Rattle.record_kinds.specs.Replies.{unknown_code}
+use Rattle.record_kinds.specs.Sets.{outcome_among, set_outcome, set_given, records_set, live_set}
+use Rattle.record_kinds.specs.SetParts.{SetGiven, limits_named, staged_given, ends_staging}
 use Rattle.test_records.specs.PartsSet.{value, entry, lengths, HasText, staged, eight_others, GoesInThree}
 
 abbrev text_limits : AttributeLimits

@@ -17,8 +17,8 @@ use Rattle.record_kinds.specs.declared.limits.Limits.{Limits}
 use Rattle.record_kinds.specs.declared.limits.Limits.TheVariants as limits
 use Rattle.record_kinds.specs.Boards.{in_store_of}
 use Rattle.record_kinds.specs.Limits.{key_of, limits_at}
-use Rattle.board_records.specs.Replies.{sessionless_channel, unknown_code}
-use Rattle.board_records.specs.Sets.{outcome_among, set_outcome, both_answered, both_set}
+use Rattle.record_kinds.specs.Replies.{sessionless_channel, unknown_code}
+use Rattle.record_kinds.specs.Sets.{outcome_among, set_outcome, both_answered, both_set}
 use Rattle.two_wire.specs.Codes.{invalid_data_field}
 use Rattle.test_records.specs.StoresSet.{non_volatile, HasChannel, ChangesTogether}
 

@@ -8,8 +8,8 @@ use Rattle.cfg_records.specs.declared.board_file.BoardFile.{BoardFile}
 use Rattle.cfg_records.specs.Records.{Records}
 use Rattle.watch_boot.specs.Watchdog.{watchdog_in}
 use Rattle.record_kinds.specs.declared.limits.Limits.TheVariants as limits
-use Rattle.board_records.specs.Replies.{unknown_code}
-use Rattle.board_records.specs.Sets.{outcome_among, set_outcome, set_given, records_set, live_set}
+use Rattle.record_kinds.specs.Replies.{unknown_code}
+use Rattle.record_kinds.specs.Sets.{outcome_among, set_outcome, set_given, records_set, live_set}
 use Rattle.test_records.specs.WholeSet.{HasSettings, counting, SetLeaves, SetsWhole}
 
 module _ (setup : BoardFile) (records : Records) (live : LivePart) (has : HasSettings records) where

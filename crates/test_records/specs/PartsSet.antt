@@ -10,14 +10,14 @@ use Rattle.record_base.specs.declared.live.Live.{Live as LivePart}
 use Rattle.record_base.specs.Attribute.{range_of}
 use Rattle.cfg_records.specs.declared.board_file.BoardFile.{BoardFile}
 use Rattle.cfg_records.specs.Records.{Records, with_record}
-use Rattle.board_records.specs.declared.set_part.SetPart.{SetPart}
-use Rattle.board_records.specs.declared.set_part.SetPart.TheVariants.{Start, Middle, End}
-use Rattle.board_records.specs.PartData.{part_in}
-use Rattle.board_records.specs.Stagings.{StagedParts}
+use Rattle.record_kinds.specs.declared.set_part.SetPart.{SetPart}
+use Rattle.record_kinds.specs.declared.set_part.SetPart.TheVariants.{Start, Middle, End}
+use Rattle.record_kinds.specs.PartData.{part_in}
+use Rattle.record_kinds.specs.Stagings.{StagedParts}
 use Rattle.record_kinds.specs.Boards.{attribute_at}
-use Rattle.board_records.specs.Replies.{done, refused}
-use Rattle.board_records.specs.Keeps.{settable}
-use Rattle.board_records.specs.SetParts.{is_last, part_given_at}
+use Rattle.record_kinds.specs.Replies.{done, refused}
+use Rattle.record_kinds.specs.Keeps.{settable}
+use Rattle.record_kinds.specs.SetParts.{is_last, part_given_at}
 
 -- the length 400 in two bytes, and 400 times `a`
 abbrev pub value : List ℕ

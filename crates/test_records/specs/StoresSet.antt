@@ -14,8 +14,8 @@ use Rattle.user_chan.specs.declared.channel_request.ChannelRequest.{ChannelReque
 use Rattle.user_chan.specs.declared.channel_request.ChannelRequest.TheVariants.{Two}
 use Rattle.user_chan.specs.ChannelRequests.{channel_request_in}
 use Rattle.record_kinds.specs.Boards.{channel_at, is_sessionless}
-use Rattle.board_records.specs.Replies.{done, refused}
-use Rattle.board_records.specs.Keeps.{answer_to_both, records_after_both}
+use Rattle.record_kinds.specs.Replies.{done, refused}
+use Rattle.record_kinds.specs.Keeps.{answer_to_both, records_after_both}
 
 -- the access of a channel in both stores
 abbrev pub non_volatile : ℕ → Key

@@ -8,8 +8,8 @@ use Rattle.record_base.specs.declared.op.Op.TheVariants as op
 use Rattle.cfg_records.specs.declared.board_file.BoardFile.{BoardFile}
 use Rattle.cfg_records.specs.Records.{Records, with_record}
 use Rattle.watch_boot.specs.Watchdog.{watchdog_in}
-use Rattle.board_records.specs.Replies.{done, refused}
-use Rattle.board_records.specs.Keeps.{answer_to, records_after, live_after}
+use Rattle.record_kinds.specs.Replies.{done, refused}
+use Rattle.record_kinds.specs.Keeps.{answer_to, records_after, live_after}
 
 -- The timer counts down for the operating system, with 12,345 tenths of a second left. It was to reset after 3,000, and the flags of two uses are set.
 abbrev pub HasSettings : Records → Type 0

@@ -4,9 +4,9 @@ use Rattle.undo_plans.specs.declared.plan.Plan.{Plan}
 use Rattle.plan_file.specs.declared.plan_fault.PlanFault.{PlanFault}
 use Rattle.plan_file.specs.declared.plan_fault.PlanFault.TheVariants as plan_fault
 use Rattle.plan_file.specs.PlanHolds.{ReadsPlan}
-use Rattle.text_undo.specs.declared.text.UndoFault.{UndoFault}
-use Rattle.text_undo.specs.declared.text.UndoFault.TheVariants as undo_fault
-use Rattle.text_undo.specs.UndoText.{IsFirstBad}
+use Rattle.text_lines.specs.declared.undo_text.UndoFault.{UndoFault}
+use Rattle.text_lines.specs.declared.undo_text.UndoFault.TheVariants as undo_fault
+use Rattle.text_lines.specs.UndoText.{IsFirstBad}
 use Rattle.text_journal.specs.declared.reading.JournalTextFault.{JournalTextFault}
 use Rattle.text_journal.specs.declared.reading.JournalTextFault.TheVariants as journal_fault
 use Rattle.text_journal.specs.JournalText.{IsFirstBad as IsFirstBadOfJournal}

@@ -4,10 +4,10 @@ use Rattle.std.proofs.lemmas.List.{append_assoc}
 use Rattle.text_lines.specs.Cuts.{ended}
 use Rattle.record_base.specs.declared.message.Asked.{Asked}
 use Rattle.record_words.specs.RequestWords.{IsUndoWords}
-use Rattle.undo_journal.specs.Kept.{Kept, waiting_at}
-use Rattle.undo_journal.specs.declared.stage.KeptTask.TheVariants.{Get, Set, Undo}
-use Rattle.undo_journal.specs.declared.stage.KeptStage.{KeptStage}
-use Rattle.undo_journal.specs.declared.stage.KeptStage.TheVariants.{Fresh, Open, Done, Halted, Undone, UndoRefused}
+use Rattle.undo_plans.specs.KeptManager.{Kept, waiting_at}
+use Rattle.undo_plans.specs.declared.kept_stage.KeptTask.TheVariants.{Get, Set, Undo}
+use Rattle.undo_plans.specs.declared.kept_stage.KeptStage.{KeptStage}
+use Rattle.undo_plans.specs.declared.kept_stage.KeptStage.TheVariants.{Fresh, Open, Done, Halted, Undone, UndoRefused}
 use Rattle.text_check.specs.Staged.{AreWaitingLines, IsBack, IsOf, set_at, undo_at, waiting_line}
 
 same_step : {a b : ℕ} → (let x : Option ℕ = Some a in x) ≡ Some b → a ≡ b

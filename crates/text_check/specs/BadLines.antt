@@ -1,7 +1,7 @@
 -- The lines of a text, by their numbers.
 use Rattle.std.specs.Prelude.{◌≡◌, ◌-◌, ℕ, Some, List}
 use Rattle.std.specs.List.{slice_get}
-use Rattle.text_schedule.specs.Text.{lines_of}
+use Rattle.text_lines.specs.ScheduleText.{lines_of}
 use Rattle.text_check.specs.declared.bad_line.LineAt.{LineAt}
 
 -- the line is the text's of this number, counted from 1

@@ -2,7 +2,7 @@
 use Rattle.std.specs.Prelude.{ℕ, Bool, not, ◌==◌, ◌&&◌, ◌||◌, List, Option, None, Some, nat_le, length, drop, slice_index, if◌then◌else◌, codes}
 use Rattle.std.specs.List.{list_all, list_any, find, starts_with}
 use Rattle.std.specs.Str.{bytes_eq, trim}
-use Rattle.text_schedule.specs.Text.{lines_of}
+use Rattle.text_lines.specs.ScheduleText.{lines_of}
 use Rattle.text_check.specs.declared.text_form.TextForm.{TextForm}
 use Rattle.text_check.specs.declared.text_form.TextForm.TheVariants.{Undo, Journal, Board, Plan, Readings, Schedule, Empty}
 

@@ -7,15 +7,15 @@ use Rattle.toml.specs.Parse.{parse_document}
 use Rattle.cfg_records.specs.declared.board_file.BoardFile.{BoardFile}
 use Rattle.undo_plans.specs.declared.plan.Plan.{Plan}
 use Rattle.undo_plans.specs.declared.undo_list.UndoList.{UndoList}
-use Rattle.text_schedule.specs.declared.event.Event.{Event}
-use Rattle.text_schedule.specs.declared.schedule.ScheduleFault.TheVariants.{Line}
+use Rattle.text_lines.specs.declared.event.Event.{Event}
+use Rattle.text_lines.specs.declared.schedule.ScheduleFault.TheVariants.{Line}
 use Rattle.text_board.specs.declared.fault.FileFault.{FileFault}
 use Rattle.plan_file.specs.declared.plan_fault.PlanFault.{PlanFault}
 use Rattle.text_board.specs.Holds.{ReadsText}
 use Rattle.plan_file.specs.PlanHolds.{ReadsPlan}
-use Rattle.text_schedule.specs.Schedule.{TextIsRead}
-use Rattle.text_undo.specs.UndoText.{IsTextOf, IsFirstBad}
-use Rattle.undo_journal.specs.Kept.{Kept}
+use Rattle.text_lines.specs.Schedule.{TextIsRead}
+use Rattle.text_lines.specs.UndoText.{IsTextOf, IsFirstBad}
+use Rattle.undo_plans.specs.KeptManager.{Kept}
 use Rattle.text_journal.specs.JournalText.{IsTextOf as IsTextOfJournal, IsFirstBad as IsFirstBadOfJournal}
 use Rattle.text_check.specs.declared.text_form.TextForm.{TextForm}
 use Rattle.text_check.specs.declared.text_form.TextForm.TheVariants as looks

@@ -7,11 +7,11 @@ use Rattle.record_kinds.specs.Limits.{key_of}
 use Rattle.model_undo.specs.PhaseNames.{two_digits}
 use Rattle.model_undo.specs.declared.phase.Why.{Why}
 use Rattle.model_undo.specs.declared.phase.Why.TheVariants as why
-use Rattle.undo_journal.specs.Kept.{Kept}
-use Rattle.undo_journal.specs.declared.stage.KeptTask.{KeptTask}
-use Rattle.undo_journal.specs.declared.stage.KeptTask.TheVariants.{Get, Set, Undo}
-use Rattle.undo_journal.specs.declared.stage.KeptStage.{KeptStage}
-use Rattle.undo_journal.specs.declared.stage.KeptStage.TheVariants.{Fresh, Open, Done, Halted, Undone, UndoRefused}
+use Rattle.undo_plans.specs.KeptManager.{Kept}
+use Rattle.undo_plans.specs.declared.kept_stage.KeptTask.{KeptTask}
+use Rattle.undo_plans.specs.declared.kept_stage.KeptTask.TheVariants.{Get, Set, Undo}
+use Rattle.undo_plans.specs.declared.kept_stage.KeptStage.{KeptStage}
+use Rattle.undo_plans.specs.declared.kept_stage.KeptStage.TheVariants.{Fresh, Open, Done, Halted, Undone, UndoRefused}
 use Rattle.record_words.specs.declared.parts.Way.TheVariants.{There}
 use Rattle.record_words.specs.NameWords.{record_words}
 use Rattle.record_words.specs.OpWords.{op_words, words_of}

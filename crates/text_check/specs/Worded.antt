@@ -6,10 +6,10 @@ use Rattle.record_base.specs.declared.op.Op.{Op}
 use Rattle.record_base.specs.declared.message.Asked.{Asked}
 use Rattle.undo_plans.specs.declared.plan.Plan.{Plan}
 use Rattle.undo_plans.specs.declared.undo_list.UndoList.{UndoList}
-use Rattle.undo_journal.specs.Kept.{Kept}
+use Rattle.undo_plans.specs.KeptManager.{Kept}
 use Rattle.plan_file.specs.declared.plan_fault.PlanFault.{PlanFault}
 use Rattle.plan_file.specs.PlanHolds.{ReadsPlan}
-use Rattle.text_undo.specs.UndoText.{IsTextOf, IsFirstBad}
+use Rattle.text_lines.specs.UndoText.{IsTextOf, IsFirstBad}
 use Rattle.text_journal.specs.JournalText.{IsTextOf as IsTextOfJournal, IsFirstBad as IsFirstBadOfJournal}
 use Rattle.record_words.specs.declared.parts.Way.TheVariants.{There}
 use Rattle.record_words.specs.OpWords.{op_words}

@@ -8,8 +8,7 @@ use file_words::{
     LineForm, READING_LINES, SCHEDULE_LINES, UNDO_LINES, push_form, push_line, push_reason, slip_of,
 };
 use std::alloc::{AllocError, Global};
-use text_schedule::lines;
-use text_undo::{first_version, head_lines};
+use text_lines::{first_version, head_lines, lines};
 use undo_plans::MOST_STEPS;
 
 /// A line of a text.

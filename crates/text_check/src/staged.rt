@@ -1,7 +1,7 @@
 //! How far the manager of a journal is, in words.
 ghost use Rattle.std.specs.Prelude.{◌≡◌, ◌++◌, ◌≤◌, None, OnOk, Some, string_bytes};
 ghost use Rattle.text_lines.specs.Cuts.{ended};
-ghost use Rattle.undo_journal.specs.Journals.{kept_in};
+ghost use Rattle.undo_plans.specs.Journals.{kept_in};
 ghost use Rattle.record_words.specs.RequestWords.{undo_words_of};
 ghost use Rattle.text_check.specs.Staged.{AreStageLines, AreWaitingLines, IsOf, got, left_at, made, part_words, set_at, stage_line, stage_words, step_words, task_words, undo_at, up_to, waiting_line, why_words};
 ghost use Rattle.text_check.specs.Telling.{Tells};
@@ -12,7 +12,7 @@ use record_kinds::Limits;
 use record_words::{InWords, RecordName, UndoInWords, Way, op_in_words, undo_in_words};
 use std::alloc::AllocError;
 use std::fmt;
-use undo_journal::{Contents, KeptStage, KeptTask};
+use undo_plans::{Contents, KeptStage, KeptTask};
 
 /// What is said of the step at which a manager is.
 #[derive(Drop)]

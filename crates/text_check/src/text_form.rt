@@ -4,7 +4,7 @@ ghost use Rattle.std.specs.List.{list_all, list_any, find};
 ghost use Rattle.text_check.specs.Looks.{begins, form_named, form_or, is_digit, is_silent, is_number, is_undo, is_journal, is_toml, begins_with_digit, begins_board, first_spoken, looks_by, looks_of};
 
 use std::alloc::{AllocError, Global};
-use text_schedule::lines;
+use text_lines::lines;
 
 /// What a text looks like.
 #[derive(Clone, Copy, PartialEq, Eq)]

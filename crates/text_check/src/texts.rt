@@ -18,8 +18,7 @@ use plan_file::{PlanFault, read_plan};
 use std::alloc::{AllocError, Global};
 use text_board::{FileFault, read_board};
 use text_journal::{JournalTextFault, read_journal};
-use text_schedule::{ScheduleFault, read_schedule};
-use text_undo::{UndoFault, read_undo};
+use text_lines::{ScheduleFault, UndoFault, read_schedule, read_undo};
 
 /// Adds that a file of a sort is refused for its line of this number.
 fn refuse_line(text: &mut String, name: &str, sort: &str, line: usize) -> Result<(), AllocError> {

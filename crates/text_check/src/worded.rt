@@ -1,7 +1,7 @@
 //! What is told of a text in words: what the steps of a plan do, and what the requests that undo them put back.
 ghost use Rattle.std.specs.Prelude.{◌≡◌, ◌≢◌, ◌++◌, ◌≤◌, OnOk, length, string_bytes};
 ghost use Rattle.text_lines.specs.Cuts.{ended};
-ghost use Rattle.undo_journal.specs.Journals.{kept_in};
+ghost use Rattle.undo_plans.specs.Journals.{kept_in};
 ghost use Rattle.record_words.specs.RequestWords.{undo_words_of};
 ghost use Rattle.text_check.specs.Telling.{Tells};
 ghost use Rattle.text_check.specs.Worded.{AreJournalLines, AreStepLines, AreUndoLines, AreWords, step_line, undo_line};
@@ -14,9 +14,8 @@ use record_base::Op;
 use record_words::{UndoInWords, Way, op_in_words, undo_in_words};
 use std::alloc::{AllocError, Global};
 use text_journal::{JournalTextFault, read_journal};
-use text_undo::{UndoFault, read_undo};
-use undo_journal::Contents;
-use undo_plans::{Requests, Steps};
+use text_lines::{UndoFault, read_undo};
+use undo_plans::{Contents, Requests, Steps};
 
 /// Adds the line of a step of this place.
 fn push_step(text: &mut String, name: &str, step: usize, op: &Op<'_>) -> Result<(), AllocError>

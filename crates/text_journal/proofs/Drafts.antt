@@ -6,8 +6,8 @@ use Rattle.std.proofs.lemmas.Grind.{flat_map-append}
 use Rattle.text_lines.specs.Cuts.{ended}
 use Rattle.record_base.specs.declared.op.Op.{Op}
 use Rattle.record_base.specs.declared.message.Asked.{Asked}
-use Rattle.undo_journal.specs.declared.stage.KeptStage.TheVariants as stage
-use Rattle.undo_journal.specs.Kept.{Kept}
+use Rattle.undo_plans.specs.declared.kept_stage.KeptStage.TheVariants as stage
+use Rattle.undo_plans.specs.KeptManager.{Kept}
 use Rattle.text_journal.specs.declared.draft.Place.{Place}
 use Rattle.text_journal.specs.declared.draft.Place.TheVariants as at
 use Rattle.text_journal.specs.JournalText.{Said, start, IsLine, Leads, Says, IsFirstBad, IsOpenAt, IsOpen, Takes, Lacks}

@@ -12,8 +12,8 @@ use Rattle.two_wire.specs.declared.Bus.{Bus}
 use Rattle.two_wire.specs.declared.Bus.TheVariants.{Ipmb, Smbus}
 use Rattle.record_kinds.specs.Limits.{words as kinds}
 use Rattle.undo_plans.specs.declared.names.Names.{Names}
-use Rattle.undo_journal.specs.declared.stage.KeptStage.{KeptStage}
-use Rattle.text_undo.specs.UndoText.{BeginsWith, bus_of, name_of}
+use Rattle.undo_plans.specs.declared.kept_stage.KeptStage.{KeptStage}
+use Rattle.text_lines.specs.UndoText.{BeginsWith, bus_of, name_of}
 use Rattle.text_journal.specs.declared.request.SpeltRequest.{SpeltRequest}
 use Rattle.text_journal.specs.declared.step.RequestHead.{RequestHead}
 use Rattle.text_journal.specs.JournalLines.{number_line, numbers_line, IsBytesLine, IsNamesLine, bytes_of, stage_line, stage_step, stage_part, IsSpelt}
@@ -22,8 +22,8 @@ use Rattle.text_journal.specs.declared.stage.StageWord.{StageWord}
 use Rattle.text_journal.specs.declared.step.StepKind.{StepKind}
 use Rattle.text_journal.specs.StageWords.{word_of, spelt}
 use Rattle.text_journal.specs.JournalText.{told_line, Lacks, AreListed, IsShown, AreReplies}
-use Rattle.undo_journal.specs.declared.stage.Counts.{Counts}
-use Rattle.undo_journal.specs.Kept.{Kept}
+use Rattle.undo_plans.specs.declared.kept_stage.Counts.{Counts}
+use Rattle.undo_plans.specs.KeptManager.{Kept}
 use Rattle.std.specs.Option.{option_and_then}
 use Rattle.std.proofs.lemmas.Bool.{eqb-true}
 use Rattle.text_journal.proofs.Lines.{lacks_by_test, lacks_both, decimal_lacks, digits_lack, numbers_lack, same_behind, same_number, same_numbers, same_bytes}

@@ -12,10 +12,10 @@ use Rattle.bios_attr.specs.EntryParts.{with_body}
 use Rattle.record_kinds.specs.Limits.{words as kinds, set_asked}
 use Rattle.record_kinds.specs.Series.{set_whole}
 use Rattle.undo_plans.specs.declared.names.Names.{Names}
-use Rattle.undo_journal.specs.declared.stage.Counts.{Counts}
-use Rattle.undo_journal.specs.declared.stage.KeptStage.{KeptStage}
-use Rattle.undo_journal.specs.Kept.{Kept}
-use Rattle.text_undo.specs.UndoText.{BeginsWith, bus_of, name_of}
+use Rattle.undo_plans.specs.declared.kept_stage.Counts.{Counts}
+use Rattle.undo_plans.specs.declared.kept_stage.KeptStage.{KeptStage}
+use Rattle.undo_plans.specs.KeptManager.{Kept}
+use Rattle.text_lines.specs.UndoText.{BeginsWith, bus_of, name_of}
 use Rattle.text_journal.specs.declared.draft.Place.{Place}
 use Rattle.text_journal.specs.declared.draft.Place.TheVariants as at
 use Rattle.text_journal.specs.declared.step.RequestHead.{RequestHead}

@@ -13,7 +13,7 @@ use Rattle.hex.specs.Hex.{decode_of, is_hex_digit}
 use Rattle.hex.proofs.HexLemmas.{decode_of-ok}
 use Rattle.text_lines.specs.Cuts.{LacksByte, CutsAt}
 use Rattle.text_lines.proofs.Cuts.{lacks_by_index, same_cut, not_lacking}
-use Rattle.text_undo.specs.UndoText.{BeginsWith}
+use Rattle.text_lines.specs.UndoText.{BeginsWith}
 use Rattle.text_journal.specs.JournalLines.{number_line, numbers_line, IsBytesLine}
 
 -- ---- what lacks a mark

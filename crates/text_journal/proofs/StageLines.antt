@@ -2,9 +2,9 @@
 use Rattle.std.proofs.Common.{◌≡◌, ◌==◌, if◌then◌else◌, ℕ, List, [], ◌++◌, get_or, refl, sym, ◌∙◌, ap, subst, arith}
 use Rattle.text_lines.specs.Cuts.{LacksByte}
 use Rattle.model_undo.specs.declared.phase.Why.TheVariants as why
-use Rattle.undo_journal.specs.declared.stage.KeptTask.TheVariants as task
-use Rattle.undo_journal.specs.declared.stage.KeptStage.{KeptStage}
-use Rattle.undo_journal.specs.declared.stage.KeptStage.TheVariants as stage
+use Rattle.undo_plans.specs.declared.kept_stage.KeptTask.TheVariants as task
+use Rattle.undo_plans.specs.declared.kept_stage.KeptStage.{KeptStage}
+use Rattle.undo_plans.specs.declared.kept_stage.KeptStage.TheVariants as stage
 use Rattle.text_journal.specs.declared.stage.StageWord.{StageWord}
 use Rattle.text_journal.specs.declared.stage.StageWord.TheVariants as word
 use Rattle.text_journal.specs.StageWords.{word_of, spelt}

@@ -3,8 +3,8 @@ use Rattle.std.proofs.Common.{◌≡◌, ◌≤◌, ℕ, List, [], ◌++◌, len
 use Rattle.std.specs.List.{AllByRecursion, flat_map}
 use Rattle.std.proofs.lemmas.Grind.{flat_map-append}
 use Rattle.text_lines.specs.Cuts.{ended}
-use Rattle.undo_journal.specs.declared.view.JournalView.{JournalView}
-use Rattle.undo_journal.specs.Journals.{kept_of}
+use Rattle.undo_plans.specs.declared.journal_view.JournalView.{JournalView}
+use Rattle.undo_plans.specs.Journals.{kept_of}
 use Rattle.text_journal.specs.JournalLines.{IsRequestLine, IsStepLine}
 use Rattle.text_journal.specs.Written.{request_line, step_line, IsWaitingLine, HasHead, HasState}
 use Rattle.text_journal.proofs.WrittenLines.{IsWritten}

@@ -16,7 +16,7 @@ use Rattle.undo_plans.specs.Fitting.{most_of}
 use Rattle.undo_plans.specs.Requests.{meant}
 use Rattle.undo_plans.specs.declared.undo_request.UndoRequest.{UndoRequest}
 use Rattle.bios_attr.specs.EntryParts.{with_body}
-use Rattle.text_undo.specs.UndoText.{name_of}
+use Rattle.text_lines.specs.UndoText.{name_of}
 use Rattle.text_journal.specs.JournalLines.{number_line, IsBytesLine, IsRequestLine}
 use Rattle.text_journal.specs.JournalSteps.{head_in, head_of}
 use Rattle.text_journal.specs.Written.{bytes_line, request_line, step_line, waiting_lines}

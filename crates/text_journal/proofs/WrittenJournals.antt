@@ -5,12 +5,12 @@ use Rattle.std.proofs.lemmas.Option.{slice_get_within}
 use Rattle.record_base.specs.declared.op.Op.{Op}
 use Rattle.record_base.specs.declared.message.Asked.{Asked}
 use Rattle.undo_plans.specs.Requests.{RequestList}
-use Rattle.undo_journal.specs.declared.stage.KeptTask.{KeptTask}
-use Rattle.undo_journal.specs.declared.stage.KeptTask.TheVariants as task
-use Rattle.undo_journal.specs.declared.stage.KeptStage.{KeptStage}
-use Rattle.undo_journal.specs.declared.stage.KeptStage.TheVariants as stage
-use Rattle.undo_journal.specs.Asking.{asked_at}
-use Rattle.undo_journal.specs.Kept.{IsStageOf, waiting_at}
+use Rattle.undo_plans.specs.declared.kept_stage.KeptTask.{KeptTask}
+use Rattle.undo_plans.specs.declared.kept_stage.KeptTask.TheVariants as task
+use Rattle.undo_plans.specs.declared.kept_stage.KeptStage.{KeptStage}
+use Rattle.undo_plans.specs.declared.kept_stage.KeptStage.TheVariants as stage
+use Rattle.undo_plans.specs.Asking.{asked_at}
+use Rattle.undo_plans.specs.KeptManager.{IsStageOf, waiting_at}
 use Rattle.text_journal.specs.JournalLines.{stage_step}
 use Rattle.text_journal.proofs.WrittenLines.{waiting_count}
 

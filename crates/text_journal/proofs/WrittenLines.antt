@@ -4,8 +4,8 @@ use Rattle.std.specs.List.{AllByRecursion}
 use Rattle.record_base.specs.declared.op.Op.{Op}
 use Rattle.record_base.specs.declared.message.Asked.{Asked}
 use Rattle.undo_plans.specs.declared.names.Names.{Names}
-use Rattle.undo_journal.specs.Bounds.{most_kept}
-use Rattle.undo_journal.specs.Kept.{Kept, IsToldToStop, AreFew}
+use Rattle.undo_plans.specs.Bounds.{most_kept}
+use Rattle.undo_plans.specs.KeptManager.{Kept, IsToldToStop, AreFew}
 use Rattle.text_journal.specs.declared.draft.Place.TheVariants as at
 use Rattle.text_journal.specs.JournalLines.{IsBytesLine, IsRequestLine, IsStepLine, stage_step}
 use Rattle.text_journal.specs.JournalText.{Said, then, start, nothing, AreListed, AreReplies, Says, Fits}

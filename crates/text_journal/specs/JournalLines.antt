@@ -10,11 +10,11 @@ use Rattle.record_base.specs.declared.op.Op.{Op}
 use Rattle.record_kinds.specs.Series.{set_whole}
 use Rattle.undo_plans.specs.Fitting.{most_of}
 use Rattle.undo_plans.specs.declared.names.Names.{Names}
-use Rattle.text_undo.specs.UndoText.{bus_of}
+use Rattle.text_lines.specs.UndoText.{bus_of}
 use Rattle.model_undo.specs.declared.phase.Why.TheVariants.{Refused, GetRefused}
-use Rattle.undo_journal.specs.declared.stage.KeptTask.TheVariants.{Get, Set, Undo}
-use Rattle.undo_journal.specs.declared.stage.KeptStage.{KeptStage}
-use Rattle.undo_journal.specs.declared.stage.KeptStage.TheVariants.{Open, Halted, UndoRefused}
+use Rattle.undo_plans.specs.declared.kept_stage.KeptTask.TheVariants.{Get, Set, Undo}
+use Rattle.undo_plans.specs.declared.kept_stage.KeptStage.{KeptStage}
+use Rattle.undo_plans.specs.declared.kept_stage.KeptStage.TheVariants.{Open, Halted, UndoRefused}
 use Rattle.text_journal.specs.StageWords.{word_of, spelt}
 
 -- ---- what lines are made of

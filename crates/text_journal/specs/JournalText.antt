@@ -8,13 +8,13 @@ use Rattle.record_base.specs.declared.message.Asked.{Asked}
 use Rattle.undo_plans.specs.Steps.{most_steps}
 use Rattle.undo_plans.specs.Requests.{RequestList}
 use Rattle.undo_plans.specs.declared.names.Names.{Names}
-use Rattle.undo_journal.specs.declared.journal.Contents.{Contents}
-use Rattle.undo_journal.specs.declared.stage.Counts.{Counts}
-use Rattle.undo_journal.specs.declared.stage.KeptStage.{KeptStage}
-use Rattle.undo_journal.specs.declared.stage.KeptStage.TheVariants.{Fresh}
-use Rattle.undo_journal.specs.Bounds.{most_kept}
-use Rattle.undo_journal.specs.Kept.{Kept, IsStageOf, IsToldToStop, AreFew, waiting_at}
-use Rattle.text_undo.specs.UndoText.{BeginsWith}
+use Rattle.undo_plans.specs.declared.journal.Contents.{Contents}
+use Rattle.undo_plans.specs.declared.kept_stage.Counts.{Counts}
+use Rattle.undo_plans.specs.declared.kept_stage.KeptStage.{KeptStage}
+use Rattle.undo_plans.specs.declared.kept_stage.KeptStage.TheVariants.{Fresh}
+use Rattle.undo_plans.specs.Bounds.{most_kept}
+use Rattle.undo_plans.specs.KeptManager.{Kept, IsStageOf, IsToldToStop, AreFew, waiting_at}
+use Rattle.text_lines.specs.UndoText.{BeginsWith}
 use Rattle.text_journal.specs.declared.draft.Place.{Place}
 use Rattle.text_journal.specs.declared.draft.Place.TheVariants as at
 use Rattle.text_journal.specs.declared.draft.Draft.{Draft}

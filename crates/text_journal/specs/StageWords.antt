@@ -1,9 +1,9 @@
 -- The words of stages.
 use Rattle.std.specs.Prelude.{ℕ, List, codes}
 use Rattle.model_undo.specs.declared.phase.Why.TheVariants as why
-use Rattle.undo_journal.specs.declared.stage.KeptTask.TheVariants as task
-use Rattle.undo_journal.specs.declared.stage.KeptStage.{KeptStage}
-use Rattle.undo_journal.specs.declared.stage.KeptStage.TheVariants as stage
+use Rattle.undo_plans.specs.declared.kept_stage.KeptTask.TheVariants as task
+use Rattle.undo_plans.specs.declared.kept_stage.KeptStage.{KeptStage}
+use Rattle.undo_plans.specs.declared.kept_stage.KeptStage.TheVariants as stage
 use Rattle.text_journal.specs.declared.stage.StageWord.{StageWord}
 use Rattle.text_journal.specs.declared.stage.StageWord.TheVariants as word
 

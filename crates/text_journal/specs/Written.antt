@@ -7,8 +7,8 @@ use Rattle.record_base.specs.declared.op.Op.{Op}
 use Rattle.record_base.specs.declared.message.Asked.{Asked}
 use Rattle.record_kinds.specs.Series.{set_whole}
 use Rattle.undo_plans.specs.declared.names.Names.{Names}
-use Rattle.undo_journal.specs.Kept.{Kept}
-use Rattle.text_undo.specs.UndoText.{bus_of}
+use Rattle.undo_plans.specs.KeptManager.{Kept}
+use Rattle.text_lines.specs.UndoText.{bus_of}
 use Rattle.text_journal.specs.JournalLines.{number_line, numbers_line, IsBytesLine, IsNamesLine, IsRequestLine, IsSpelt, names_bytes, bytes_of, stage_line, stage_step}
 use Rattle.text_journal.specs.JournalText.{told_line}
 

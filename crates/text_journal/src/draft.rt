@@ -2,8 +2,8 @@
 ghost use Rattle.std.specs.Prelude.{◌≡◌, ◌≢◌, ◌↔◌, ◌<◌, ◌≤◌, ◌+◌, ◌^◌, ℕ, suc, List, Bool, true, false, None, IfOk, IfSome, IfNone, MatchOption, length, codes};
 ghost use Rattle.undo_plans.specs.Steps.{most_steps};
 ghost use Rattle.undo_plans.specs.declared.names.Names.{Names as AnyNames};
-ghost use Rattle.undo_journal.specs.declared.stage.Counts.{Counts as AnyCounts};
-ghost use Rattle.text_undo.specs.UndoText.{BeginsWith};
+ghost use Rattle.undo_plans.specs.declared.kept_stage.Counts.{Counts as AnyCounts};
+ghost use Rattle.text_lines.specs.UndoText.{BeginsWith};
 ghost use Rattle.text_journal.specs.JournalLines.{IsNamesLine, names_bytes, AreEven, numbers_line};
 ghost use Rattle.text_journal.specs.JournalText.{said_in, kept_so_far, then, start, no_names, IsOpen, Takes, Lacks, Leads, IsVersion, IsRetries, AreNames, AreListed, IsCount, IsStep, IsUndo, IsWaiting, IsTold, AreCounts, AreReplies, IsShown, Fits, told_line};
 
@@ -12,8 +12,7 @@ use crate::request::first_spelt;
 use crate::stage::first_stage;
 use std::alloc::{AllocError, Global};
 use two_wire::Address;
-use undo_journal::{Contents, Counts, KeptStage, KeptTask};
-use undo_plans::{MOST_STEPS, Names, Requests, Steps};
+use undo_plans::{Contents, Counts, KeptStage, KeptTask, MOST_STEPS, Names, Requests, Steps};
 
 /// What the next line has to say.
 #[derive(Clone, Copy)]

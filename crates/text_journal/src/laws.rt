@@ -1,6 +1,6 @@
 //! Laws of the texts of journals.
 ghost use Rattle.std.specs.Prelude.{◌≡◌, ℕ, List};
-ghost use Rattle.undo_journal.specs.Kept.{Kept};
+ghost use Rattle.undo_plans.specs.KeptManager.{Kept};
 ghost use Rattle.text_journal.specs.JournalText.{IsTextOf, IsFirstBad};
 
 /// All journals that a text stands for say the same. It has one first bad line at most, and never both: so what is written is read again as the

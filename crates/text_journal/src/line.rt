@@ -1,7 +1,7 @@
 //! What the lines of a journal are made of.
 ghost use Rattle.std.specs.Prelude.{◌≡◌, ◌≢◌, ◌++◌, ◌∷◌, [], ◌<◌, ◌^◌, ℕ, List, IfOk, IfSome, IfNone, MatchOption};
 ghost use Rattle.text_lines.specs.Cuts.{line_feed, LacksByte};
-ghost use Rattle.text_undo.specs.UndoText.{BeginsWith};
+ghost use Rattle.text_lines.specs.UndoText.{BeginsWith};
 ghost use Rattle.text_journal.specs.JournalLines.{number_line, numbers_line, IsBytesLine};
 
 use std::alloc::{AllocError, Global};

@@ -1,13 +1,13 @@
 //! Reading the text of a journal.
 ghost use Rattle.std.specs.Prelude.{◌≡◌, ◌≢◌, ◌⊎◌, ℕ, IfOk, IfErr, IfSome, IfNone};
-ghost use Rattle.undo_journal.specs.Journals.{kept_in};
+ghost use Rattle.undo_plans.specs.Journals.{kept_in};
 ghost use Rattle.text_journal.specs.declared.draft.Place.TheVariants as at;
 ghost use Rattle.text_journal.specs.JournalText.{said_in, kept_so_far, IsOpen, IsTextOf, IsFirstBad};
 
 use crate::draft::{Draft, Place};
 use std::alloc::Global;
 use std::fmt;
-use undo_journal::Journal;
+use undo_plans::Journal;
 
 /// Why a text is no journal.
 #[derive(Clone, Copy, Debug, PartialEq, Eq)]

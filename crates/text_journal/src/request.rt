@@ -5,7 +5,7 @@ ghost use Rattle.record_base.specs.declared.op.Op.{Op as AnyOp};
 ghost use Rattle.record_kinds.specs.Series.{set_whole};
 ghost use Rattle.two_wire.specs.declared.Bus.{Bus as AnyBus};
 ghost use Rattle.undo_plans.specs.Requests.{meant};
-ghost use Rattle.text_undo.specs.UndoText.{BeginsWith, name_of, bus_of};
+ghost use Rattle.text_lines.specs.UndoText.{BeginsWith, name_of, bus_of};
 ghost use Rattle.text_journal.specs.JournalLines.{bytes_of, IsRequest, IsBytesLine};
 
 use crate::line::first_bytes;

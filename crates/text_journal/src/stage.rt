@@ -1,7 +1,7 @@
 //! The line of the stage.
 ghost use Rattle.std.specs.Prelude.{◌≡◌, ◌≢◌, ◌++◌, ℕ, List, true, false, IfSome, IfNone};
-ghost use Rattle.undo_journal.specs.declared.stage.KeptStage.{KeptStage as AnyStage};
-ghost use Rattle.text_undo.specs.UndoText.{BeginsWith};
+ghost use Rattle.undo_plans.specs.declared.kept_stage.KeptStage.{KeptStage as AnyStage};
+ghost use Rattle.text_lines.specs.UndoText.{BeginsWith};
 ghost use Rattle.text_journal.specs.declared.stage.StageWord.{StageWord as AnyWord};
 ghost use Rattle.text_journal.specs.StageWords.{word_of, spelt};
 ghost use Rattle.text_journal.specs.JournalLines.{stage_line, stage_step, stage_part, HasCode, IsSpelt};
@@ -10,7 +10,7 @@ use crate::line::first_numbers;
 use model_undo::Why;
 use text_lines::behind;
 use two_wire::Code;
-use undo_journal::{KeptStage, KeptTask};
+use undo_plans::{KeptStage, KeptTask};
 
 /// The word of a stage. A halted plan has one for each reason.
 #[derive(Clone, Copy)]

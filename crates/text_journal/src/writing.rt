@@ -4,10 +4,10 @@ ghost use Rattle.std.specs.Option.{option_map};
 ghost use Rattle.std.specs.List.{AllByRecursion, flat_map};
 ghost use Rattle.hex.specs.Hex.{encode_upper};
 ghost use Rattle.text_lines.specs.Cuts.{ended};
-ghost use Rattle.text_undo.specs.UndoText.{name_of};
+ghost use Rattle.text_lines.specs.UndoText.{name_of};
 ghost use Rattle.undo_plans.specs.Requests.{meant};
 ghost use Rattle.undo_plans.specs.Steps.{most_steps};
-ghost use Rattle.undo_journal.specs.Journals.{kept_of};
+ghost use Rattle.undo_plans.specs.Journals.{kept_of};
 ghost use Rattle.text_journal.specs.JournalLines.{IsBytesLine, IsNamesLine, IsRequestLine, IsStepLine, IsSpelt, names_bytes, stage_line, stage_step};
 ghost use Rattle.text_journal.specs.JournalText.{IsTextOf};
 ghost use Rattle.text_journal.specs.Written.{text_of, bytes_line, listed_line, request_line, step_line, head_lines, step_lines, undo_lines, waiting_lines, replies_line, state_lines, IsListed, HasHead, IsWaitingLine, HasState};
@@ -19,8 +19,7 @@ use record_base::{Op, RecordKind};
 use record_kinds::Limits;
 use std::alloc::{AllocError, Global};
 use two_wire::Bus;
-use undo_journal::{Counts, JournalView, KeptStage};
-use undo_plans::{Names, Requests, Steps, UndoRequest};
+use undo_plans::{Counts, JournalView, KeptStage, Names, Requests, Steps, UndoRequest};
 
 /// Adds these bytes in upper-case hexadecimal, two digits for each.
 fn push_digits(text: &mut String, bytes: &[u8]) -> Result<(), AllocError>

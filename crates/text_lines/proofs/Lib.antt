@@ -1,2 +1,9 @@
 pub mod Cuts
 pub mod Numerals
+pub mod UndoLines
+pub mod NamesLines
+pub mod UndoLists
+pub mod Once
+pub mod TextLines
+pub mod Written
+pub mod Drained

@@ -1,2 +1,11 @@
 pub mod Cuts
 pub mod RecordsLine
+pub mod Versions
+pub mod UndoText
+pub mod UndoNames
+pub mod ScheduleText
+pub mod EventLine
+pub mod Reads
+pub mod Schedule
+pub mod EventNames
+pub mod Written

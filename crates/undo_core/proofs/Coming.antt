@@ -12,7 +12,7 @@ use Rattle.mctp_net.specs.declared.packet.Packet.{Packet}
 use Rattle.mctp_net.specs.declared.fault.PacketFault.{PacketFault}
 use Rattle.mctp_net.specs.Grammar.{IsPacket}
 use Rattle.undo_plans.specs.declared.names.Names.{Names}
-use Rattle.model_ports.specs.Values.{Value, Asks, Tells, Part, IsFrameOn}
+use Rattle.bmc_core.specs.Values.{Value, Asks, Tells, Part, IsFrameOn}
 use Rattle.model_lab.specs.ManagerSteps.{ManagerState, board_plans, rests, manager_hears}
 use Rattle.undo_core.specs.declared.manager.Manager.{Manager}
 use Rattle.undo_core.specs.declared.sending.Sent.{Sent}

@@ -28,9 +28,9 @@ use Rattle.model_undo.specs.Wires.{number_of}
 use Rattle.model_undo.specs.Resume.{list_of, resumed, IsOver, Input as MachineInput, Called, Replies, NumberedRequest, request_of, turn_of as machine_turn}
 use Rattle.model_undo.proofs.Resume.{Rest, with_rest, IsPast, SameNumbers, IsAlike, AreAlike, any_alike, same_phase, over_alike}
 use Rattle.model_undo.proofs.OnBus.{IsOnBus, SendsOnBus, sends_on_bus}
-use Rattle.model_ports.specs.Wires.{bus_of, bytes_of, answered_from}
-use Rattle.model_ports.specs.Bytes.{response_bytes}
-use Rattle.model_ports.specs.Values.{Value, Asks, Tells, Part, written, IsFrameOn}
+use Rattle.bmc_core.specs.Wires.{bus_of, bytes_of, answered_from}
+use Rattle.bmc_core.specs.Bytes.{response_bytes}
+use Rattle.bmc_core.specs.Values.{Value, Asks, Tells, Part, written, IsFrameOn}
 use Rattle.model_undo.specs.declared.call.Call.{Call}
 use Rattle.model_undo.specs.declared.call.Call.TheVariants.{Start, Quiet, Stop, Again, Undo}
 use Rattle.model_lab.specs.ManagerSteps.{ManagerState, ManagerStepResult, board_plans, values_of, called, goes_on, sent_of, rests, is_answer, is_part, heeded_on, open_count, open_bytes, taken_or, tested, hears_reply, hears_response, ends_reply, joins, joins_for, hears_packet, manager_hears}

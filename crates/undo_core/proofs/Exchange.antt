@@ -34,13 +34,13 @@ use Rattle.model_bus.specs.Bytes.{answers, is_busy_code}
 use Rattle.model_bus.specs.Answered.{Answered}
 use Rattle.model_undo.specs.Machine as machine
 use Rattle.model_undo.specs.Wires.{number_of}
-use Rattle.model_ports.specs.Wires.{bus_of, bytes_of, reply_to, answered_from}
-use Rattle.model_ports.specs.Bytes.{response_bytes, response_to}
-use Rattle.model_ports.specs.Values.{Value, Asks, Tells, Part, written, parts_of, IsFrameOn}
-use Rattle.model_ports.specs.Cuts.{kept_after_parts, kept_with_parts, has_slot}
-use Rattle.model_ports.specs.PortSteps.{PortState, StepResult, stays, hears_request, hears_control, hears_pldm, hears_typed, hears_message, hears_part, hears_parts, ends_message}
+use Rattle.bmc_core.specs.Wires.{bus_of, bytes_of, reply_to, answered_from}
+use Rattle.bmc_core.specs.Bytes.{response_bytes, response_to}
+use Rattle.bmc_core.specs.Values.{Value, Asks, Tells, Part, written, parts_of, IsFrameOn}
+use Rattle.bmc_core.specs.Cuts.{kept_after_parts, kept_with_parts, has_slot}
+use Rattle.bmc_core.specs.PortSteps.{PortState, StepResult, stays, hears_request, hears_control, hears_pldm, hears_typed, hears_message, hears_part, hears_parts, ends_message}
 use Rattle.model_lab.specs.ManagerSteps.{board_plans, ManagerState, ManagerStepResult, heeded_on, open_count, open_bytes, is_part, rests, taken_or, tested, hears_reply, hears_response, joins_for, joins, ends_reply, hears_packet}
-use Rattle.model_ports.proofs.Parts.{parts_are_cuts, parts_are_heard}
+use Rattle.bmc_core.proofs.Parts.{parts_are_cuts, parts_are_heard}
 use Rattle.undo_core.specs.Shown.{words_of}
 use Rattle.undo_core.specs.Exchange.{AreReadAs, AreNames, CanBeAsked, CanBeTold, IsControllers, hears_each, reply_message, values_told, ManagerDeeds, sent_list, deeds_of, manager_hears_each, IsAwaiting, IsHeardAsAsked, RequestsAreHeard, IsTakenAsTold, RepliesAreTaken}
 use Rattle.undo_core.proofs.Heard.{ipmb_by_fields, busy_is_none}

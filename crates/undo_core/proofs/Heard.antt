@@ -21,12 +21,12 @@ use Rattle.pldm_base.specs.Message.{IsReply}
 use Rattle.undo_plans.specs.declared.names.Names.{Names}
 use Rattle.undo_plans.specs.Requests.{RequestList}
 use Rattle.model_bus.specs.Bytes.{answers, ipmb_answers, pldm_answers, is_busy_code}
-use Rattle.model_ports.specs.Wires.{bus_of, bytes_of, answered_from}
+use Rattle.bmc_core.specs.Wires.{bus_of, bytes_of, answered_from}
 use Rattle.model_bus.specs.Answered.{Answered}
 use Rattle.model_undo.specs.Words.{is_busy}
 use Rattle.model_undo.specs.Wires.{number_of}
 use Rattle.model_undo.specs.Machine as machine
-use Rattle.model_ports.specs.Bytes.{response_bytes}
+use Rattle.bmc_core.specs.Bytes.{response_bytes}
 use Rattle.model_lab.specs.ManagerSteps.{board_plans, ManagerState, heeded_on, tested, rests, taken_or, is_answer, is_part, hears_response, hears_reply, hears_packet, joins_for, joins, ends_reply}
 use Rattle.undo_core.specs.declared.stage.Task.{Task}
 use Rattle.undo_core.specs.declared.stage.Stage.{Stage}

@@ -5,11 +5,11 @@ use Rattle.record_base.specs.declared.message.Asked.{Asked}
 use Rattle.undo_plans.specs.declared.names.Names.{Names}
 use Rattle.model_undo.specs.Machine as machine
 use Rattle.model_lab.specs.ManagerSteps.{board_plans, ManagerState}
-use Rattle.undo_journal.specs.declared.stage.KeptStage.{KeptStage}
-use Rattle.undo_journal.specs.declared.stage.KeptStage.TheVariants as kept
-use Rattle.undo_journal.specs.declared.stage.KeptTask.TheVariants as kept_as
-use Rattle.undo_journal.specs.Bounds.{most_kept}
-use Rattle.undo_journal.specs.Kept.{Kept, IsToldToStop, waiting_at, stopped_at, replies_at}
+use Rattle.undo_plans.specs.declared.kept_stage.KeptStage.{KeptStage}
+use Rattle.undo_plans.specs.declared.kept_stage.KeptStage.TheVariants as kept
+use Rattle.undo_plans.specs.declared.kept_stage.KeptTask.TheVariants as kept_as
+use Rattle.undo_plans.specs.Bounds.{most_kept}
+use Rattle.undo_plans.specs.KeptManager.{Kept, IsToldToStop, waiting_at, stopped_at, replies_at}
 use Rattle.undo_core.specs.declared.manager.Manager.{Manager}
 use Rattle.undo_core.specs.declared.stage.Task.{Task}
 use Rattle.undo_core.specs.declared.stage.Task.TheVariants as task

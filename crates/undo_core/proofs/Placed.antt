@@ -12,7 +12,7 @@ use Rattle.bios_attr.specs.EntryParts.{request_at, goes_on, get_part}
 use Rattle.record_kinds.specs.Limits.{key_of}
 use Rattle.record_kinds.specs.Series.{set_whole}
 use Rattle.undo_plans.specs.Requests.{RequestList}
-use Rattle.undo_journal.specs.Asking.{get_at}
+use Rattle.undo_plans.specs.Asking.{get_at}
 use Rattle.undo_core.specs.Joining.{get_after_reply}
 use Rattle.undo_core.specs.declared.stage.Task.TheVariants.{Gets, Sets, Undoes}
 use Rattle.undo_core.specs.declared.stage.Stage.{Stage}

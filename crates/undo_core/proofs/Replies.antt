@@ -14,7 +14,7 @@ use Rattle.bios_attr.specs.EntryParts.{request_at}
 use Rattle.record_kinds.specs.Series.{Series, Sends, set_whole}
 use Rattle.undo_plans.specs.declared.names.Names.{Names}
 use Rattle.undo_plans.specs.Requests.{RequestList}
-use Rattle.model_ports.specs.Wires.{bus_of}
+use Rattle.bmc_core.specs.Wires.{bus_of}
 use Rattle.model_bus.specs.Answered.{Answered}
 use Rattle.model_undo.specs.Words.{is_busy}
 use Rattle.model_undo.specs.Machine as machine

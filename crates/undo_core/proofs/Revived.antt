@@ -6,9 +6,9 @@ use Rattle.record_base.specs.declared.op.Op.{Op}
 use Rattle.record_base.specs.declared.message.Asked.{Asked}
 use Rattle.undo_plans.specs.Requests.{RequestList}
 use Rattle.undo_plans.specs.Fitting.{most_requests}
-use Rattle.undo_journal.specs.Asking.{asked_at}
-use Rattle.undo_journal.specs.Bounds.{most_kept}
-use Rattle.undo_journal.specs.Kept.{Waits, IsPlaceOf}
+use Rattle.undo_plans.specs.Asking.{asked_at}
+use Rattle.undo_plans.specs.Bounds.{most_kept}
+use Rattle.undo_plans.specs.KeptManager.{Waits, IsPlaceOf}
 use Rattle.undo_core.specs.declared.stage.Task.TheVariants.{Gets, Sets, Undoes}
 use Rattle.undo_core.specs.declared.stage.Stage.{Stage}
 use Rattle.undo_core.specs.declared.stage.Stage.TheVariants.{AtStart, Opened, AtEnd, AtHalt, AtUndone, AtRefused}

@@ -8,8 +8,8 @@ use Rattle.undo_core.specs.declared.stage.Stage.{Stage}
 use Rattle.undo_core.specs.declared.stage.Stage.TheVariants.{AtStart, Opened}
 use Rattle.undo_core.specs.Joining.{most_joined}
 use Rattle.undo_core.specs.Stages.{kept_task, kept_stage}
-use Rattle.undo_journal.specs.Bounds as kept
-pub use Rattle.undo_journal.specs.Bounds.{replies_of_step, most_replies}
+use Rattle.undo_plans.specs.Bounds as kept
+pub use Rattle.undo_plans.specs.Bounds.{replies_of_step, most_replies}
 
 -- how many requests of the stage's task were answered
 abbrev pub parts_at : Stage → ℕ

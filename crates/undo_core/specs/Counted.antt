@@ -5,8 +5,8 @@ use Rattle.record_base.specs.declared.message.Asked.{Asked}
 use Rattle.record_base.specs.declared.message.Asked.TheVariants.{Ipmi, Pldm}
 use Rattle.undo_plans.specs.declared.names.Names.{Names}
 use Rattle.model_undo.specs.Machine.{Counts as MachineCounts, count_of}
-use Rattle.model_ports.specs.Wires.{bus_of}
-use Rattle.model_ports.specs.Values.{Value, written, IsFrameOn}
+use Rattle.bmc_core.specs.Wires.{bus_of}
+use Rattle.bmc_core.specs.Values.{Value, written, IsFrameOn}
 use Rattle.mctp_net.specs.declared.packet.Envelope.{Envelope}
 use Rattle.two_wire.specs.Circles.{tags}
 use Rattle.model_lab.specs.ManagerSteps.{values_of}

@@ -6,7 +6,7 @@ use Rattle.mctp_net.specs.Assembly.{nothing}
 use Rattle.model_undo.specs.declared.phase.Phase.{Phase}
 use Rattle.model_undo.specs.Machine.{phase_of}
 use Rattle.model_undo.specs.Resume.{list_of, resumed, IsOver}
-use Rattle.model_ports.specs.Values.{Value, written, IsFrameOn}
+use Rattle.bmc_core.specs.Values.{Value, written, IsFrameOn}
 use Rattle.model_undo.specs.declared.call.Call.{Call}
 use Rattle.model_undo.specs.declared.call.Call.TheVariants.{Undo}
 use Rattle.model_lab.specs.ManagerSteps.{Sent, ManagerState, ManagerStepResult, board_plans, called, rests, manager_hears}

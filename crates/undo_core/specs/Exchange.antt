@@ -20,10 +20,10 @@ use Rattle.model_bus.specs.Request.{Request as Heard}
 use Rattle.model_bus.specs.Answered.{Answered}
 use Rattle.model_undo.specs.Machine.{Part as TaskPart, reply_of}
 use Rattle.model_undo.specs.Wires.{number_of}
-use Rattle.model_ports.specs.Wires.{bus_of, bytes_of, reply_to}
-use Rattle.model_ports.specs.Bytes.{said}
-use Rattle.model_ports.specs.Values.{Value, Tells, Part, written, parts_of, IsFrameOn}
-use Rattle.model_ports.specs.PortSteps.{PortState, Turn, StepResult, turn, spelled, stays, hears}
+use Rattle.bmc_core.specs.Wires.{bus_of, bytes_of, reply_to}
+use Rattle.bmc_core.specs.Bytes.{said}
+use Rattle.bmc_core.specs.Values.{Value, Tells, Part, written, parts_of, IsFrameOn}
+use Rattle.bmc_core.specs.PortSteps.{PortState, Turn, StepResult, turn, spelled, stays, hears}
 use Rattle.model_lab.specs.ManagerSteps.{own_on, board_plans, values_of, Sent, ManagerState, ManagerStepResult, heeded_on, open_count, taken_or, manager_hears}
 use Rattle.model_lab.specs.ManagerEvents.{name_awaited}
 use Rattle.undo_core.specs.Shown.{words_of, own}

@@ -3,12 +3,12 @@ use Rattle.std.specs.Prelude.{◌≡◌, ℕ, suc, ◌<◌, ◌∷◌, List, len
 use Rattle.std.specs.Option.{option_map}
 use Rattle.record_kinds.specs.Series.{set_whole}
 use Rattle.undo_plans.specs.declared.names.Names.{Names}
-use Rattle.undo_journal.specs.declared.stage.KeptTask.{KeptTask}
-use Rattle.undo_journal.specs.declared.stage.KeptTask.TheVariants.{Get, Set, Undo}
-use Rattle.undo_journal.specs.declared.stage.KeptStage.{KeptStage}
-use Rattle.undo_journal.specs.declared.stage.KeptStage.TheVariants.{Fresh, Open, Done, Halted, Undone, UndoRefused}
-use Rattle.undo_journal.specs.Asking.{asked_at}
-use Rattle.undo_journal.specs.Kept.{Kept, waiting_at, stopped_at, replies_at}
+use Rattle.undo_plans.specs.declared.kept_stage.KeptTask.{KeptTask}
+use Rattle.undo_plans.specs.declared.kept_stage.KeptTask.TheVariants.{Get, Set, Undo}
+use Rattle.undo_plans.specs.declared.kept_stage.KeptStage.{KeptStage}
+use Rattle.undo_plans.specs.declared.kept_stage.KeptStage.TheVariants.{Fresh, Open, Done, Halted, Undone, UndoRefused}
+use Rattle.undo_plans.specs.Asking.{asked_at}
+use Rattle.undo_plans.specs.KeptManager.{Kept, waiting_at, stopped_at, replies_at}
 use Rattle.model_undo.specs.Machine as machine
 use Rattle.model_lab.specs.ManagerSteps.{board_plans, ManagerState, remade}
 use Rattle.undo_core.specs.declared.manager.Manager.{Manager}

@@ -4,10 +4,10 @@ use Rattle.record_base.specs.declared.op.Op.{Op}
 use Rattle.record_base.specs.declared.message.Asked.{Asked}
 use Rattle.undo_plans.specs.Requests.{RequestList}
 use Rattle.undo_plans.specs.Steps.{most_steps}
-use Rattle.undo_journal.specs.Asking.{asked_at}
-use Rattle.undo_journal.specs.Kept.{Waits}
-use Rattle.undo_journal.specs.declared.stage.KeptStage.{KeptStage}
-use Rattle.undo_journal.specs.declared.stage.KeptStage.TheVariants.{Open}
+use Rattle.undo_plans.specs.Asking.{asked_at}
+use Rattle.undo_plans.specs.KeptManager.{Waits}
+use Rattle.undo_plans.specs.declared.kept_stage.KeptStage.{KeptStage}
+use Rattle.undo_plans.specs.declared.kept_stage.KeptStage.TheVariants.{Open}
 use Rattle.undo_core.specs.declared.stage.Task.{Task}
 use Rattle.undo_core.specs.declared.stage.Stage.{Stage}
 use Rattle.undo_core.specs.declared.stage.Stage.TheVariants.{AtStart, Opened, AtEnd, AtHalt, AtUndone, AtRefused}

@@ -3,8 +3,8 @@ use Rattle.std.proofs.Props.{props}
 use Rattle.std.specs.Prelude.{ℕ, List}
 use Rattle.record_base.specs.declared.op.Op.{Op}
 use Rattle.undo_plans.specs.Requests.{RequestList}
-use Rattle.undo_journal.specs.declared.stage.KeptStage.{KeptStage}
-use Rattle.undo_journal.specs.declared.stage.KeptStage.TheVariants.{Fresh, Open, Done, Halted, Undone, UndoRefused}
+use Rattle.undo_plans.specs.declared.kept_stage.KeptStage.{KeptStage}
+use Rattle.undo_plans.specs.declared.kept_stage.KeptStage.TheVariants.{Fresh, Open, Done, Halted, Undone, UndoRefused}
 use Rattle.undo_core.specs.declared.stage.Task.TheVariants.{Gets, Sets, Undoes}
 use Rattle.undo_core.specs.declared.stage.Stage.{Stage}
 use Rattle.undo_core.specs.declared.stage.Stage.TheVariants.{AtStart, Opened, AtEnd, AtHalt, AtUndone, AtRefused}

@@ -26,9 +26,9 @@ use Rattle.model_undo.specs.Resume.{resumed}
 use Rattle.model_undo.specs.Wires.{number_of}
 use Rattle.undo_core.specs.declared.phase.WrongPhase.{WrongPhase}
 use Rattle.model_lab.specs.ManagerWords.{from_manager}
-use Rattle.model_ports.specs.Bytes.{response_bytes}
-use Rattle.model_ports.specs.Wires.{bus_of, bytes_of, answered_from}
-use Rattle.model_ports.specs.Values.{written, IsFrameOn}
+use Rattle.bmc_core.specs.Bytes.{response_bytes}
+use Rattle.bmc_core.specs.Wires.{bus_of, bytes_of, answered_from}
+use Rattle.bmc_core.specs.Values.{written, IsFrameOn}
 use Rattle.model_undo.specs.declared.call.Call.{Call}
 use Rattle.model_lab.specs.ManagerSteps.{addresses, board_plans, Sent as AllSent, ManagerState, ManagerStepResult, sent_of, called, remade, rests, taken_or, hears_reply, hears_response, hears_packet, joins}
 use Rattle.undo_core.specs.declared.entering.Reply.{Reply}

@@ -2,16 +2,16 @@
 use Rattle.std.specs.Prelude.{◌≡◌, ℕ, Bool, true, false}
 use Rattle.two_wire.specs.declared.Bus.{Bus}
 use Rattle.record_base.specs.declared.message.Asked.{Asked}
-use Rattle.model_ports.specs.Wires.{bus_of}
+use Rattle.bmc_core.specs.Wires.{bus_of}
 use Rattle.model_undo.specs.declared.phase.Why.{Why}
 use Rattle.undo_core.specs.declared.stage.Task.{Task}
 use Rattle.undo_core.specs.declared.stage.Stage.{Stage}
 use Rattle.undo_core.specs.declared.stage.Task.TheVariants as task
 use Rattle.undo_core.specs.declared.stage.Stage.TheVariants.{AtStart, Opened, AtEnd, AtHalt, AtUndone, AtRefused}
-use Rattle.undo_journal.specs.declared.stage.KeptTask.{KeptTask}
-use Rattle.undo_journal.specs.declared.stage.KeptTask.TheVariants.{Get, Set, Undo}
-use Rattle.undo_journal.specs.declared.stage.KeptStage.{KeptStage}
-use Rattle.undo_journal.specs.declared.stage.KeptStage.TheVariants.{Fresh, Open, Done, Halted, Undone, UndoRefused}
+use Rattle.undo_plans.specs.declared.kept_stage.KeptTask.{KeptTask}
+use Rattle.undo_plans.specs.declared.kept_stage.KeptTask.TheVariants.{Get, Set, Undo}
+use Rattle.undo_plans.specs.declared.kept_stage.KeptStage.{KeptStage}
+use Rattle.undo_plans.specs.declared.kept_stage.KeptStage.TheVariants.{Fresh, Open, Done, Halted, Undone, UndoRefused}
 
 -- this request of a task is open
 abbrev pub IsOpen : Stage → Asked → Type 0

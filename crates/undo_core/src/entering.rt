@@ -8,7 +8,7 @@ ghost use Rattle.undo_core.specs.Joining.{most_joined};
 ghost use Rattle.undo_core.specs.Entered.{EntersStep, EntersUndo, AfterTask, AfterSet, AfterUndo};
 ghost use Rattle.undo_core.specs.Bounds.{parts_at, most_got, most_replied, task_steps, steps_needed, task_undone, undone_needed, task_backs, most_backs, replies_left, FewerAreLeft, LeavesFewer, LeavesNoMore, task_ahead, steps_ahead};
 ghost use Rattle.undo_core.specs.Room.{HasRoom, NeedsNoMoreRoom, NeedsNoRoom};
-ghost use Rattle.undo_journal.specs.Kept.{Waits};
+ghost use Rattle.undo_plans.specs.KeptManager.{Waits};
 ghost use Rattle.undo_core.specs.Stages.{kept_task};
 ghost use Rattle.undo_core.specs.Placed.{IsPlaced, IsPlacedIn, IsPlacedAmong};
 

@@ -1,12 +1,12 @@
 //! What is kept of a manager.
 ghost use Rattle.std.specs.Prelude.{◌≡◌, ◌≤◌};
 ghost use Rattle.two_wire.specs.Retries.{most_retries};
-ghost use Rattle.undo_journal.specs.Journals.{kept_of};
+ghost use Rattle.undo_plans.specs.Journals.{kept_of};
 ghost use Rattle.undo_core.specs.Shown.{ForRepresented};
 ghost use Rattle.undo_core.specs.Journals.{kept_by, IsJournalOf};
 
 use crate::manager::Manager;
-use undo_journal::{Counts, JournalView};
+use undo_plans::{Counts, JournalView};
 
 impl Manager {
     /// The manager's journal, where it lies: what is to be kept of it, so that it can be made again once its process ended. It stays the same at

@@ -1,9 +1,9 @@
 //! A manager that is made again of its journal.
 ghost use Rattle.std.specs.Prelude.{◌≡◌, ◌<◌, ◌↔◌, IfOk, Some, Err};
 ghost use Rattle.two_wire.specs.Retries.{most_retries};
-ghost use Rattle.undo_journal.specs.declared.stage.KeptStage.TheVariants.{Open as IsOpen};
-ghost use Rattle.undo_journal.specs.Kept.{IsTaskOf, IsStageOf};
-ghost use Rattle.undo_journal.specs.Journals.{kept_in};
+ghost use Rattle.undo_plans.specs.declared.kept_stage.KeptStage.TheVariants.{Open as IsOpen};
+ghost use Rattle.undo_plans.specs.KeptManager.{IsTaskOf, IsStageOf};
+ghost use Rattle.undo_plans.specs.Journals.{kept_in};
 ghost use Rattle.undo_core.specs.Shown.{IsForOthers};
 ghost use Rattle.undo_core.specs.Placed.{IsPlaced};
 ghost use Rattle.undo_core.specs.Stages.{kept_task, kept_stage, IsUnheeded, resent_at as resent_of};
@@ -18,8 +18,9 @@ use crate::stage::{Stage, Task};
 use mctp_net::Assembler;
 use std::alloc::Global;
 use two_wire::Retries;
-use undo_journal::{Contents, Journal, KeptStage, KeptTask};
-use undo_plans::{Names, NextNumbers, Requests, Steps, UndoList};
+use undo_plans::{
+    Contents, Journal, KeptStage, KeptTask, Names, NextNumbers, Requests, Steps, UndoList,
+};
 
 impl Manager {
     /// A manager that is made again of a journal: one that has a request open has it unsettled, and its plan is to stop. A journal of a manager of

@@ -2,7 +2,7 @@
 ghost use Rattle.std.specs.Prelude.{◌≡◌, ◌+◌, ◌%◌, ◌<◌, suc};
 ghost use Rattle.model_undo.specs.Machine.{count_of, one_answered};
 ghost use Rattle.model_undo.specs.Wires.{number_of};
-ghost use Rattle.model_ports.specs.Wires.{bus_of as bus_of_request};
+ghost use Rattle.bmc_core.specs.Wires.{bus_of as bus_of_request};
 ghost use Rattle.two_wire.specs.Circles.{tags};
 ghost use Rattle.two_wire.specs.declared.Bus.TheVariants.{Ipmb as IsIpmb, Smbus as IsSmbus};
 ghost use Rattle.undo_core.specs.Bounds.{most_replies};

@@ -10,7 +10,7 @@ use crate::sending::bus_of;
 use crate::{Phase, Why};
 use cfg_records::Asked;
 use two_wire::{Bus, Code};
-use undo_journal::{KeptStage, KeptTask};
+use undo_plans::{KeptStage, KeptTask};
 
 /// One step of the way there or back.
 #[derive(Clone, Copy)]

@@ -1,6 +1,6 @@
 //! Which schedules `make_schedule` draws, and how.
 use super::dice::Dice;
-use lab_schedule::{Chances, Links, Percent, ScheduleOptions};
+use lab_play::{Chances, Links, Percent, ScheduleOptions};
 use two_wire::Below;
 
 /// Whether the schedule of this seed is drawn by `make_schedule`: each fourth is.

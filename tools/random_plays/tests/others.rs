@@ -4,7 +4,7 @@ ghost use Rattle.std.specs.Prelude.{◌<◌};
 use super::dice::Dice;
 use ipmb_frame::Party;
 use lab_run::SentFrame;
-use text_schedule::{BenchEvent, Event, Octets, OtherMessage, OtherRequest};
+use text_lines::{BenchEvent, Event, Octets, OtherMessage, OtherRequest};
 use std::alloc::Global;
 use std::test::Fail;
 use two_wire::{Address, Below, Bus, Bytes, Lun, NetFn};

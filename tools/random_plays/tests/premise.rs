@@ -1,7 +1,7 @@
 //! The premise on packets: none that waits at the controller is joined once eight newer requests were begun on its bus.
 use bmc_core::Disposition;
 use lab_run::{Lab, SentFrame, Way};
-use text_schedule::Event;
+use text_lines::Event;
 use two_wire::Bus;
 
 /// How many tags there are, and how many newer requests make a packet that waits too old.

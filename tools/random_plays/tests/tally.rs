@@ -1,7 +1,7 @@
 //! How often what happened in the schedules that were played.
 use lab_run::Fault;
 use model_undo::Call;
-use text_schedule::Event;
+use text_lines::Event;
 use undo_core::{Phase, Why};
 
 /// Counts of events that were taken, of phases that were entered, and of what became of frames.

@@ -6,7 +6,7 @@ use model_undo::Call;
 use record_base::{
     EventChange, EventMasks, NumericBytes, SetEventEnable, SetNumericEffecter, SetThresholds,
 };
-use text_schedule::{BenchEvent, Event, OtherRequest};
+use text_lines::{BenchEvent, Event, OtherRequest};
 use std::alloc::Global;
 use std::test::Fail;
 

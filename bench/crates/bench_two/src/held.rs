@@ -22,8 +22,8 @@ struct Recorder<J> {
 
 impl<J: Opening> Carrier for Recorder<J> {
     ghost use Rattle.std.specs.Prelude.{◌≡◌};
-    ghost use Rattle.bmc_history.specs.declared.event.Call.TheVariants.{Exchanged};
-    ghost use Rattle.bmc_history.specs.Calls.{GainsEvent};
+    ghost use Rattle.bmc_shared.specs.declared.event.Call.TheVariants.{Exchanged};
+    ghost use Rattle.bmc_shared.specs.Calls.{GainsEvent};
 
     type Kept = Held<J, Records>;
 

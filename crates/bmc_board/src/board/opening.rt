@@ -3,8 +3,7 @@ ghost use Rattle.std.specs.Prelude.{◌≡◌, IfOk};
 ghost use Rattle.bmc_board.specs.State.{opened, state_of};
 
 use crate::board::Board;
-use cfg_records::BoardFile;
-use packed_store::PackedStore;
+use cfg_records::{BoardFile, PackedStore};
 use std::alloc::{AllocError, Global};
 
 /// The store that a controller's board keeps its records in. The programs name it so, and no store by its own name.

@@ -10,9 +10,9 @@ use crate::board::serve::outdate;
 use bios_attr::AskedPart;
 use bios_attr::bios_attribute::{START_AND_END, attribute_in, attribute_shown_in};
 use bios_attr::entry_parts::entry_in;
-use board_records::{is_last, part_in, unknown_code};
 use cfg_records::{Key, Op, RecordData, RecordKind, Store, byte_at};
 use pldm_base::{GET_NEXT_PART, entry_part};
+use record_kinds::{is_last, part_in, unknown_code};
 use two_wire::{Buffer, Code};
 
 /// Appends a later part of an entry.
@@ -28,7 +28,7 @@ fn show_later_part<B: Buffer>(entry: &[u8], transfer: u32, to: &mut B) -> Result
 impl<S: Store> Board<S> {
     ghost use Rattle.bmc_board.specs.Request as request;
     ghost use Rattle.bios_attr.specs.BiosAttribute.{attribute_in};
-    ghost use Rattle.board_records.specs.PartData.{part_in};
+    ghost use Rattle.record_kinds.specs.PartData.{part_in};
     ghost use Rattle.bmc_board.specs.AttributeCommands.{whole_asked, part_asked, attribute_set, attribute_get};
     ghost use Rattle.bmc_board.specs.Serves.{ReplyFits, ServesRequest, serve_by};
 

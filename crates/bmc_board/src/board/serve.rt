@@ -24,12 +24,13 @@ use crate::storage::{
     add_entry, clear, part_in, sdr_info, sel_info, show_entry, show_sdr, time_in,
 };
 use bios_attr::{BiosTable, Tables};
-use board_records::{KeptRecords, place_to_make, unknown_code};
 use cfg_records::{
     Answered, Asked, BoardFile, CommandReader, Key, Op, RecordKind, Store, Value, byte_at,
 };
 use record_base::{AccessStore, ChannelNumber, SetChannelAccess, StoredAccess, UserNumber};
-use record_kinds::{PlainKind, Setup, of_each_plain_kind};
+use record_kinds::{
+    KeptRecords, PlainKind, Setup, of_each_plain_kind, place_to_make, unknown_code,
+};
 use sensor_recs::readings::reading_data;
 use std::alloc::{AllocError, Global};
 use two_wire::{Buffer, Bytes, Code, code};

@@ -1,7 +1,7 @@
 //! What holds of what a port on IPMB does: each law is the contract of a function without a body.
 ghost use Rattle.std.specs.Prelude.{List, ℕ};
 ghost use Rattle.cfg_records.specs.declared.board_file.BoardFile.{BoardFile};
-ghost use Rattle.model_ports.specs.PortSteps.{PortState};
+ghost use Rattle.bmc_core.specs.PortSteps.{PortState};
 ghost use Rattle.bmc_core.specs.IpmbHeard.{HearsAtMostOne};
 ghost use Rattle.bmc_core.specs.IpmbRuns.{AreHeardThenAnswered, Arrival, KeepsTheRule, PortAndBoard, PortEvent, CarriesTheRule};
 

@@ -1,12 +1,13 @@
 //! Requests that a port has heard, where they lie, and as they wait for an answer.
 ghost use Rattle.std.specs.Prelude.{◌≡◌, ◌≤◌, length, drop};
 ghost use Rattle.ipmb_frame.specs.Grammar.{request_bytes};
-ghost use Rattle.bmc_windows.specs.Heard.{request_of};
+ghost use Rattle.bmc_core.specs.Heard.{request_of};
 ghost use Rattle.bmc_board.specs.Asking.{as_asked};
-ghost use Rattle.model_ports.specs.Bytes.{heard_in};
-ghost use Rattle.model_ports.specs.PortSteps.{asked_in};
+ghost use Rattle.bmc_core.specs.Bytes.{heard_in};
+ghost use Rattle.bmc_core.specs.PortSteps.{asked_in};
 ghost use Rattle.bmc_core.specs.IpmbShown.{reading, HasUnits};
 
+use crate::window_request::WindowRequest;
 use bmc_board::AskedRef;
 use cfg_records::Asked;
 use ipmb_frame::{Header, Request};
@@ -66,7 +67,7 @@ impl<'a> RequestInFrame<'a> {
     }
 
     /// The request as the windows keep it.
-    pub fn kept(&self) -> bmc_windows::Request<'_, { SEQUENCE_NUMBERS }>
+    pub fn kept(&self) -> WindowRequest<'_, { SEQUENCE_NUMBERS }>
         ensures is { request_of reading result ≡ heard_in self.now }
         ensures room { length result.rest.now ≤ 27 }
         ensures units { HasUnits self.now.header }
@@ -74,7 +75,7 @@ impl<'a> RequestInFrame<'a> {
         let header = &self.request.header;
         let _data = self.request.body.as_slice();
         let _requester = header.requester.lun.number();
-        bmc_windows::Request {
+        WindowRequest {
             requester: header.requester.address.byte(),
             number: header.sequence,
             first: header.net_fn.number() << 2 | header.responder.lun.number(),

@@ -8,8 +8,9 @@ ghost use Rattle.bmc_core.specs.IpmbServed.{BeginsResponse, IsEnded, AnswersBy, 
 
 use super::pending::RequestInFrame;
 use crate::out::{Disposition, Out};
+use crate::window_request::Found;
+use crate::windows::Windows;
 use bmc_board::Carrier;
-use bmc_windows::{Found, Windows};
 use cfg_records::{Answered, byte_at};
 use ipmb_frame::{Header, begin_response, end_response, write_response_into};
 use two_wire::circles::SEQUENCE_NUMBERS;

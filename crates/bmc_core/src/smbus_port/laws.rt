@@ -1,7 +1,7 @@
 //! What holds of what a port on the System Management Bus does: each law is the contract of a function without a body.
 ghost use Rattle.std.specs.Prelude.{List};
 ghost use Rattle.cfg_records.specs.declared.board_file.BoardFile.{BoardFile};
-ghost use Rattle.model_ports.specs.PortSteps.{PortState};
+ghost use Rattle.bmc_core.specs.PortSteps.{PortState};
 ghost use Rattle.bmc_core.specs.SmbusRuns.{AreHeardThenAnswered, Arrival, KeepsTheRule, PortAndBoard, PortEvent, CarriesTheRule};
 
 /// A port of a board hears a packet, and then gets the board's answer to what the packet asks.

@@ -2,11 +2,12 @@
 ghost use Rattle.std.specs.Prelude.{◌≡◌, ◌≤◌, length};
 ghost use Rattle.two_wire.specs.Sizes.{most_message_bytes};
 ghost use Rattle.pldm_base.specs.Message.{request_bytes};
-ghost use Rattle.bmc_windows.specs.Heard.{request_of};
+ghost use Rattle.bmc_core.specs.Heard.{request_of};
 ghost use Rattle.bmc_board.specs.Asking.{as_asked};
 ghost use Rattle.bmc_core.specs.SmbusHeard.{asking, asked_of, behind_first};
 ghost use Rattle.bmc_core.specs.SmbusShown.{pldm_reading, request_in, pending_of};
 
+use crate::window_request::WindowRequest;
 use bmc_board::AskedRef;
 use cfg_records::Asked;
 use mctp_net::Envelope;
@@ -54,13 +55,13 @@ impl<'a> RequestInMessage<'a> {
     }
 
     /// The request as the windows keep it, with the ignored bit 0.
-    pub fn kept(&self) -> bmc_windows::Request<'_, { INSTANCES }>
+    pub fn kept(&self) -> WindowRequest<'_, { INSTANCES }>
         ensures is { request_of pldm_reading result ≡ asking self.now }
         ensures room { length result.rest.now ≤ most_message_bytes }
     {
         let header = self.request.header;
         let _data = self.request.body.as_slice();
-        bmc_windows::Request {
+        WindowRequest {
             requester: self.envelope.source_eid,
             number: header.instance,
             first: REQUEST + header.instance.number(),

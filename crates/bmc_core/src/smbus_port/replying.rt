@@ -10,8 +10,9 @@ ghost use Rattle.bmc_core.specs.SmbusServed.{reply_before_data, IsEnded, Answers
 use super::pending::RequestInMessage;
 use crate::out::{Disposition, Out};
 use crate::port::At;
+use crate::window_request::Found;
+use crate::windows::Windows;
 use bmc_board::Carrier;
-use bmc_windows::{Found, Windows};
 use cfg_records::Answered;
 use mctp_net::{Envelope, Message, SomeData, split_into};
 use model_bus::PLDM_MESSAGE_TYPE;

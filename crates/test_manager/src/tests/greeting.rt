@@ -1,8 +1,7 @@
 //! A greeting against the frames of a controller.
 use std::process::Abort;
 use two_wire::{Address, Below, Bus, Frame};
-use undo_greeting::{Greeting, WrongPhase};
-use undo_plans::Names;
+use undo_plans::{Greeting, Names, WrongStage};
 
 /// Get Device ID with data, under sequence numbers 31, 63 and 7.
 const IPMB_31: [u8; 11] = [
@@ -66,7 +65,7 @@ fn expect(rt: &impl Abort, holds: bool) {
 }
 
 /// The frame is sent.
-fn is_sent(sent: Result<Option<Frame>, WrongPhase>, frame: &[u8]) -> bool {
+fn is_sent(sent: Result<Option<Frame>, WrongStage>, frame: &[u8]) -> bool {
     match sent {
         Ok(Some(sent)) => sent.as_slice() == frame,
         _ => false,

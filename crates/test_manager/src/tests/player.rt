@@ -4,7 +4,7 @@ use super::scene::Managed;
 use std::alloc::Global;
 use std::fmt::Debug;
 use std::process::Abort;
-use story_lines::{NoOutcome, report_of};
+use stories::{NoOutcome, report_of};
 use undo_core::Phase;
 
 /// Appends what the phase is called.

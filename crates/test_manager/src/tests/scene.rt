@@ -2,8 +2,8 @@
 use super::player::{push_fault, push_phase};
 use record_base::{Asked, Op, SetBiosAttribute, SetThresholds};
 use std::alloc::{AllocError, Global};
-use story_lines::{NoOutcome, NoScene, Scene};
-use text_undo::read_undo;
+use stories::{NoOutcome, NoScene, Scene};
+use text_lines::read_undo;
 use two_wire::{Address, Below, Bus, Retries};
 use undo_core::{Manager, Sent, WrongPhase};
 use undo_plans::{Names, NextNumbers, Plan, Requests, Steps, UndoList, UndoRequest};

@@ -6,7 +6,7 @@ use model_lab::lab_names;
 use std::alloc::Global;
 use std::process::Abort;
 use two_wire::{Bus, Retries};
-use undo_greeting::Greeting;
+use undo_plans::Greeting;
 use wire_links::{Counts, Link, MemLink};
 
 /// Get Device ID with data, under sequence numbers 31 and 63.

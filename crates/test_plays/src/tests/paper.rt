@@ -2,7 +2,7 @@
 use app_base::Console;
 use std::alloc::Global;
 use std::io;
-use story_lines::NoOutcome;
+use stories::NoOutcome;
 
 /// What a writer was given, and how many of its calls are left before the one that fails, if one is to fail.
 #[derive(Drop)]

@@ -6,7 +6,7 @@ use super::text::{parted, push_lines};
 use app_base::UnreadFile;
 use std::alloc::{AllocError, Global};
 use std::process::Abort;
-use story_lines::{NoOutcome, SAMPLE};
+use stories::{NoOutcome, SAMPLE};
 
 /// What of a text was played, and what came otherwise than told.
 ///

@@ -11,7 +11,7 @@ use app_bmclab::{
 use app_play::{PlayFiles, PlayOptions, Shown, chart_run, play_of_files, play_run, show};
 use bmc_lab::{frame_of_file, frame_run};
 use std::alloc::{AllocError, Global};
-use story_lines::NoOutcome;
+use stories::NoOutcome;
 use two_wire::Bus;
 
 /// A play of the story's texts: in lines, with its frames, with the premise on packets, drawn, or as a call of `show` does it.

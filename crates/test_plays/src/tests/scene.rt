@@ -4,7 +4,7 @@ use super::text::parted;
 use app_base::{TextFiles, UnreadFile};
 use app_bmclab::{Cause, TellsCause};
 use std::alloc::Global;
-use story_lines::NoOutcome;
+use stories::NoOutcome;
 
 /// A file: its text, or why it isn't read.
 type File = Result<String, UnreadFile>;

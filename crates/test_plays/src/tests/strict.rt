@@ -1,7 +1,6 @@
 //! Plays that end by what came of the plan, and lists of the records that changed.
 use super::{expect_equal, expect_told};
-use app_base::Status;
-use app_strict::{end_status, halts, records_status, strict_status};
+use app_base::{Status, end_status, halts, records_status, strict_status};
 use std::process::Abort;
 use two_wire::Code;
 use undo_core::{Phase, Why};

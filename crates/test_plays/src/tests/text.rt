@@ -1,5 +1,5 @@
 //! What a line of a story stands for: lines that come several times, and pieces of lines that do, or that count.
-use story_lines::NoOutcome;
+use stories::NoOutcome;
 
 /// The first word, and the words behind it.
 pub fn parted(words: &str) -> (&str, &str) {

@@ -5,7 +5,7 @@ use model_lab::lab_names;
 use plan_file::read_plan;
 use std::alloc::Global;
 use std::process::Abort;
-use text_undo::{read_undo, write_undo};
+use text_lines::{read_undo, write_undo};
 use two_wire::Bus;
 use undo_core::{Manager, OpenFault, Phase, ResumeFault, Sent, Why};
 

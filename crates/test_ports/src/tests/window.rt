@@ -1,6 +1,6 @@
 //! What a port finds in its windows, over lists of requests.
 use super::expect_told;
-use bmc_windows::{Found, Request, Windows};
+use bmc_core::{Found, WindowRequest, Windows};
 use two_wire::Below;
 
 const WINDOWS: &str = "\
@@ -274,7 +274,7 @@ fn repeats(found: Found<'_, 32>, wanted: &[u8]) -> bool {
 #[test]
 fn a_request_is_kept_and_found(rt: HostRuntime) {
     let mut windows = Windows::<64, 32>::new(rt.alloc()).expect(&rt, "memory");
-    let request = Request {
+    let request = WindowRequest {
         requester: 0x2C,
         number: Below::new(7),
         first: 0x28,

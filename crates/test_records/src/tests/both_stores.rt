@@ -1,8 +1,7 @@
 //! The same requests to a board over each of the two stores.
 use super::{expect_bytes, expect_equal};
 use bmc_board::Board;
-use cfg_records::{BoardFile, Key, PlainStore, StartValue, Store};
-use packed_store::PackedStore;
+use cfg_records::{BoardFile, Key, PackedStore, PlainStore, StartValue, Store};
 use std::alloc::Global;
 use std::process::Abort;
 use stories::{asks, board_of};

@@ -1,9 +1,9 @@
 //! Names that sensor data records and tables of attributes give.
 use super::expect;
 use record_base::Key;
+use report_words::{Names, SensorHead, attribute_name, id_string, sensor_head};
 use std::alloc::Global;
 use std::process::Abort;
-use table_names::{Names, SensorHead, attribute_name, id_string, sensor_head};
 
 /// The beginnings of records (IPMI 2.0): id 0001h, version 51h, the type, the size, the owner, its logical unit and the sensor.
 const FULL: [u8; 8] = [0x01, 0x00, 0x51, 0x01, 0x33, 0x20, 0x00, 0x05];

@@ -4,10 +4,9 @@ ghost use Rattle.record_base.specs.Keys.{is_length};
 
 use super::{expect, expect_bytes, expect_each, expect_equal};
 use cfg_records::{
-    Answered, Asked, Key, Live, NoKey, PlainStore, Sensor, Sensors, StartValue, Store, StoreFault,
-    sample_board,
+    Answered, Asked, Key, Live, NoKey, PackedStore, PlainStore, Sensor, Sensors, StartValue, Store,
+    StoreFault, sample_board,
 };
-use packed_store::PackedStore;
 use record_base::{
     BootFlags, BootOptions, BootParameter, EventEnable, EventMasks, Hysteresis, ThresholdMasks,
     Thresholds,

@@ -1,8 +1,8 @@
 //! Strings that are set in parts, over PLDM.
 use super::attribute::asset;
 use super::{expect, expect_bytes, expect_equal, expect_told};
-use board_records::{Entry, SetPart, Stagings, part_in};
 use record_base::TextLengths;
+use record_kinds::{Entry, SetPart, Stagings, part_in};
 use std::alloc::Global;
 use std::process::Abort;
 use two_wire::code::{PLDM_INVALID_DATA, PLDM_INVALID_LENGTH};

@@ -7,9 +7,8 @@ use lab_run::Fault;
 use plan_file::read_plan;
 use std::alloc::Global;
 use std::process::Abort;
-use story_lines::SAMPLE;
-use text_schedule::read_schedule;
-use text_undo::{read_undo, write_undo};
+use stories::SAMPLE;
+use text_lines::{read_schedule, read_undo, write_undo};
 use two_wire::code::NODE_BUSY;
 use undo_core::{Phase, Why};
 

@@ -11,11 +11,11 @@ use std::process::Abort;
 use text_board::read_board;
 use text_check::{checked, form_or};
 use text_journal::read_journal;
-use text_lines::{behind, byte, bytes, first_line, first_word, number, plain_number};
-use text_schedule::read_schedule;
-use text_undo::{push_requests, read_undo, write_undo};
-use undo_journal::Contents;
-use undo_plans::{Plan, Requests, UndoList, UndoRequest};
+use text_lines::{
+    behind, byte, bytes, first_line, first_word, number, plain_number, push_requests,
+    read_schedule, read_undo, write_undo,
+};
+use undo_plans::{Contents, Plan, Requests, UndoList, UndoRequest};
 
 /// What a text is of.
 #[derive(Clone, Copy)]

@@ -1,11 +1,11 @@
 //! What a Get shows behind an operation of each kind, and what the operation makes of it.
 use super::story::expect_equal;
 use super::words::{bytes_of, list_of};
-use app_preview::foresee;
+use app_change::foresee;
 use plan_file::read_plan;
 use record_base::Op;
 use record_words::undone_op;
-use shown_after::{Meaning, meaning_of, shown_after};
+use shown_records::{Meaning, meaning_of, shown_after};
 use std::alloc::Global;
 use std::process::Abort;
 

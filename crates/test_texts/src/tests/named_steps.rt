@@ -1,13 +1,13 @@
 //! What is told of steps on a sensor whose name is known.
 use super::story::expect_equal;
 use super::words::bytes_of;
-use app_preview::{Foreseen, Outlook, outlooks_json, outlooks_text};
+use app_change::{Foreseen, Outlook, outlooks_json, outlooks_text};
 use plan_file::read_plan;
 use record_base::Key;
-use shown_after::Meaning;
+use report_words::{IdString, Names};
+use shown_records::Meaning;
 use std::alloc::Global;
 use std::process::Abort;
-use table_names::{IdString, Names};
 use two_wire::code;
 use undo_plans::Plan;
 

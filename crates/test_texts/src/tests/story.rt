@@ -4,7 +4,7 @@ use super::files::BARE;
 use std::alloc::Global;
 use std::fmt::Debug;
 use std::process::Abort;
-use story_lines::SAMPLE;
+use stories::SAMPLE;
 
 /// Where the other lines of a story stand.
 #[derive(Clone, Copy)]

@@ -5,7 +5,7 @@ use record_kinds::Limits;
 use record_words::{RecordName, Way, change_in_words, op_in_words, undo_in_words, undone_op};
 use std::alloc::Global;
 use std::process::Abort;
-use text_undo::read_undo;
+use text_lines::read_undo;
 use undo_plans::{UndoList, UndoRequest};
 
 /// Requests that undo, as lines of an undo text, and what is said of each.

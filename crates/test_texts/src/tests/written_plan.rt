@@ -1,7 +1,7 @@
 //! Steps written as plans.
 use plan_file::read_plan;
-use plan_text::{is_sayable, write_plan};
 use record_base::{Op, SetPowerPolicy, SetWatchdog};
+use shown_records::{is_sayable, write_plan};
 use std::alloc::Global;
 use std::process::Abort;
 use undo_plans::Steps;

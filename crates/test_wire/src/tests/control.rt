@@ -5,7 +5,7 @@ use mctp_net::{
     split,
 };
 use std::process::Abort;
-use story_lines::NoOutcome;
+use stories::NoOutcome;
 
 /// What the endpoint replies.
 fn reply_to(endpoint: &mut Endpoint, bytes: &[u8]) -> Option<ControlReply> {

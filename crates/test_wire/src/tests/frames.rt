@@ -6,7 +6,7 @@ use ipmb_frame::{
 };
 use std::alloc::AllocError;
 use std::process::Abort;
-use story_lines::NoOutcome;
+use stories::NoOutcome;
 use two_wire::{Address, Data, Frame, Lun, NetFn};
 
 /// Appends the kind of the message, and who asks whom for what.

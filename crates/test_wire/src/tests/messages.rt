@@ -5,7 +5,7 @@ use mctp_net::{
     Assembler, DropCause, Envelope, Message, Packet, SomeData, Tag, Taken, read_packet, split,
 };
 use std::process::Abort;
-use story_lines::NoOutcome;
+use stories::NoOutcome;
 use two_wire::{Address, Frame, pec};
 
 /// From endpoint 08h at 30h to endpoint 0Ah at 20h, under tag 3 of the source's own.

@@ -2,7 +2,7 @@
 use super::player::{expect_told, push_named, push_other, push_word};
 use mctp_net::{Envelope, Packet, read_packet, write_packet};
 use std::alloc::AllocError;
-use story_lines::NoOutcome;
+use stories::NoOutcome;
 
 /// Appends between whom the message goes.
 fn push_envelope(envelope: Envelope, text: &mut String) -> Result<(), AllocError> {

@@ -3,7 +3,7 @@ use super::scene::Wire;
 use std::alloc::Global;
 use std::fmt::{Debug, Display};
 use std::process::Abort;
-use story_lines::{NoOutcome, report_of};
+use stories::{NoOutcome, report_of};
 use two_wire::Bytes;
 
 /// The first word, and the words behind it.

@@ -8,7 +8,7 @@ use pldm_base::{
     write_pldm_reply,
 };
 use std::alloc::AllocError;
-use story_lines::NoOutcome;
+use stories::NoOutcome;
 use two_wire::{Bytes, Code, Data};
 
 /// The bytes as those of a message, which has 255 at most.

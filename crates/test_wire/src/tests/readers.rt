@@ -5,7 +5,7 @@ use super::player::{bytes_of, parted, push_byte, push_word};
 use super::pldm::{are_same_messages, read_reply, read_request};
 use pldm_base::crc32;
 use std::alloc::Global;
-use story_lines::NoOutcome;
+use stories::NoOutcome;
 use two_wire::{check_byte, pec};
 
 fn push_crc32(bytes: &[u8], text: &mut String) -> Result<(), NoOutcome> {

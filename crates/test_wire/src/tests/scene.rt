@@ -6,7 +6,7 @@ use super::pldm::{Parts, part_of};
 use super::readers::{are_same, changed, cuts, read};
 use mctp_net::{Assembler, Endpoint, EndpointId};
 use std::alloc::Global;
-use story_lines::{NoOutcome, NoScene, Scene};
+use stories::{NoOutcome, NoScene, Scene};
 
 /// What lines come to.
 #[derive(Drop)]

@@ -1,7 +1,7 @@
 use Rattle.std.proofs.Common.{◌≡◌, Err, Some, sym, ap, subst, codes, map, string_bytes}
 use Rattle.clap.specs.Words.{all_of, found_of, rows_of}
 use Rattle.app_base.proofs.Readings.{refuses_more, refuses_on}
-use Rattle.app_ask.specs.Request.{AsksForRequest}
+use Rattle.bmc_lab.specs.Request.{AsksForRequest}
 use Rattle.app_bmclab.proofs.Readings.{request_asked, request_refuses}
 use Rattle.app_bmclab.proofs.ask_words.ask_words.Goals as goal
 

@@ -2,7 +2,7 @@ use Rattle.std.proofs.Common.{ℕ, List, Bool, Option, option_map, string_bytes,
 use Rattle.std.specs.Option.{option_copied}
 use Rattle.app_base.specs.Ending.{RunEnds}
 use Rattle.bmc_lab.specs.Files.{SaysOfFile}
-use Rattle.app_ask.specs.Files.{SaysOfExplained}
+use Rattle.bmc_lab.specs.AskFiles.{SaysOfExplained}
 use Rattle.app_bmclab.specs.Run.{SaysOfFrame}
 use Rattle.app_bmclab.proofs.run.send.Goals as goal
 

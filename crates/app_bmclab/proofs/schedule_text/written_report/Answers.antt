@@ -1,7 +1,7 @@
 use Rattle.std.proofs.Common.{◌≡◌, ◌∙◌, List, ℕ, Ok, ap, string_bytes, subst, sym}
-use Rattle.text_schedule.specs.declared.event.Event.{Event}
-use Rattle.text_schedule.specs.Schedule.{TextIsRead}
-use Rattle.text_schedule.specs.Written.{text_of}
+use Rattle.text_lines.specs.declared.event.Event.{Event}
+use Rattle.text_lines.specs.Schedule.{TextIsRead}
+use Rattle.text_lines.specs.Written.{text_of}
 use Rattle.app_bmclab.proofs.schedule_text.written_report.Goals as goal
 
 pub returns-clause-written : goal.returns-clause-written

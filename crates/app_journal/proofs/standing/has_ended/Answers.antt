@@ -1,5 +1,5 @@
 use Rattle.std.proofs.Common.{◌∙◌, ap}
-use Rattle.undo_journal.specs.Kept.{Kept}
+use Rattle.undo_plans.specs.KeptManager.{Kept}
 use Rattle.app_journal.specs.Standing.{is_over_at}
 use Rattle.app_journal.proofs.standing.has_ended.Goals as goal
 

@@ -1,4 +1,4 @@
-use Rattle.app_strict.specs.Refusals.{is_loose}
+use Rattle.app_base.specs.Refusals.{is_loose}
 use Rattle.app_pair.specs.PairRun.{SaysPair}
 use Rattle.app_pair.proofs.Telling.{pair_said, said_unless}
 use Rattle.app_pair.proofs.pairing.read_report.Goals as goal

@@ -1,5 +1,5 @@
 use Rattle.std.proofs.Common.{List, subst, sym}
-use Rattle.text_schedule.specs.declared.event.Event.{Event}
+use Rattle.text_lines.specs.declared.event.Event.{Event}
 use Rattle.lab_run.specs.declared.note.Note.{Note}
 use Rattle.app_play.specs.Restarted.{NotesTurnsPlay}
 use Rattle.app_play.proofs.RestartedRuns.{draws}

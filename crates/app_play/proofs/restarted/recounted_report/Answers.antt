@@ -1,5 +1,5 @@
 use Rattle.std.proofs.Common.{List, subst}
-use Rattle.text_schedule.specs.declared.event.Event.{Event}
+use Rattle.text_lines.specs.declared.event.Event.{Event}
 use Rattle.lab_play.specs.Restarting.{RestartedResult}
 use Rattle.app_play.proofs.RestartedRuns.{RestartedOf, recounts}
 use Rattle.app_play.proofs.restarted.recounted_report.Goals as goal

@@ -1,5 +1,5 @@
 use Rattle.std.proofs.Common.{List, subst}
-use Rattle.text_schedule.specs.declared.event.Event.{Event}
+use Rattle.text_lines.specs.declared.event.Event.{Event}
 use Rattle.lab_play.specs.Ends.{PlayResult}
 use Rattle.app_play.proofs.Plays.{PlaysOf, recounts}
 use Rattle.app_play.proofs.run.played_report.Goals as goal

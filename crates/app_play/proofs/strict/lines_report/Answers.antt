@@ -1,5 +1,5 @@
 use Rattle.std.proofs.Common.{ℕ, List, IfOk, ◌≡◌, subst}
-use Rattle.text_schedule.specs.declared.event.Event.{Event}
+use Rattle.text_lines.specs.declared.event.Event.{Event}
 use Rattle.app_play.specs.Strict.{PlaysBy, ended_by}
 use Rattle.app_play.proofs.Strictly.{recounts_report}
 use Rattle.app_play.proofs.strict.lines_report.Goals as goal

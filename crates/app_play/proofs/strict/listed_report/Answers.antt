@@ -1,5 +1,5 @@
 use Rattle.std.proofs.Common.{◌∙◌, ap, string_bytes}
-use Rattle.changed_words.specs.Changes.{listed}
+use Rattle.report_words.specs.Changes.{listed}
 use Rattle.app_play.proofs.Strictly.{list_bytes}
 use Rattle.app_play.proofs.strict.listed_report.Goals as goal
 

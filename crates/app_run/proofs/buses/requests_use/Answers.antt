@@ -2,7 +2,7 @@ use Rattle.std.specs.Prelude.{◌||◌}
 use Rattle.std.proofs.Common.{◌∙◌, ap}
 use Rattle.two_wire.specs.declared.Bus.{Bus}
 use Rattle.model_undo.specs.Machine.{same_bus}
-use Rattle.model_ports.specs.Wires.{bus_of}
+use Rattle.bmc_core.specs.Wires.{bus_of}
 use Rattle.undo_plans.specs.Requests.{meant}
 use Rattle.app_run.proofs.Used.{used_more}
 use Rattle.app_run.proofs.buses.requests_use.Goals as goal

@@ -1,5 +1,5 @@
 use Rattle.std.proofs.Common.{◌≡◌, map, take}
-use Rattle.model_ports.specs.Wires.{bus_of}
+use Rattle.bmc_core.specs.Wires.{bus_of}
 use Rattle.app_run.specs.Buses.{is_used}
 use Rattle.app_run.proofs.buses.requests_use.Given as goal
 

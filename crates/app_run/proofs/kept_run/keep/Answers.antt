@@ -1,6 +1,6 @@
 use Rattle.std.specs.Prelude.{Result}
 use Rattle.std.proofs.Common.{◌∙◌, inl, inr, refl, subst, sym}
-use Rattle.text_undo.specs.UndoText.{text_of}
+use Rattle.text_lines.specs.UndoText.{text_of}
 use Rattle.model_lab.specs.Meaning.{lab_names}
 use Rattle.app_journal.specs.declared.files.WriteFault.{WriteFault}
 use Rattle.app_journal.specs.Beside.{GivesUndo}

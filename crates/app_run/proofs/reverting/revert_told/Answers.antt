@@ -1,6 +1,6 @@
 use Rattle.std.proofs.Common.{List, inl, subst, rules, string_bytes}
 use Rattle.plan_file.specs.declared.kind.Kind.{Kind}
-use Rattle.undo_journal.specs.Journals.{kept_of}
+use Rattle.undo_plans.specs.Journals.{kept_of}
 use Rattle.app_run.specs.Reverting.{RevertsText}
 use Rattle.app_run.specs.Told.{MayTellRevert, TellsRevert}
 use Rattle.app_run.proofs.Ways.{carried, told_of_kept}

@@ -1,6 +1,6 @@
 use Rattle.std.proofs.Common.{ℕ, List, Option, Some, option_map, string_bytes, subst}
 use Rattle.app_base.specs.declared.report.Report.{Report}
-use Rattle.app_strict.specs.Refusals.{RefusedIf}
+use Rattle.app_base.specs.Refusals.{RefusedIf}
 use Rattle.app_serve.specs.Run.{is_refused_strictly}
 use Rattle.app_serve.proofs.Serving.{strict_told}
 use Rattle.app_serve.proofs.inputs.servable_inputs.Goals as goal

@@ -1,4 +1,4 @@
-use Rattle.text_schedule.specs.Text.{lines_of}
+use Rattle.text_lines.specs.ScheduleText.{lines_of}
 use Rattle.app_serve.proofs.ReadingsLists.{one_told, told_or_bad, one_first}
 use Rattle.app_serve.proofs.laws.one_readings_list.Goals as goal
 

@@ -1,6 +1,6 @@
 use Rattle.std.proofs.Common.{◌+◌, inl, [], length}
 use Rattle.bmc_board.specs.State.{state_of}
-use Rattle.bmc_history.specs.Replay.{calls_of}
+use Rattle.bmc_shared.specs.Replay.{calls_of}
 use Rattle.bmc_ports.proofs.Rounds.{clash, fewer, has_turns, takes_turns, turns_left}
 use Rattle.app_serve.proofs.Following.{events_one, more_events, runs_from, runs_more, runs_one, turns_one}
 use Rattle.app_serve.proofs.periods.serve_periods.Goals as goal

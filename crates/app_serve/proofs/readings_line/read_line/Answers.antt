@@ -1,6 +1,6 @@
 use Rattle.std.proofs.Common.{List, ℕ, map, ap, ◌∙◌, subst}
 use Rattle.std.specs.Borrow.{Bor}
-use Rattle.text_schedule.specs.Reads.{FindsOne}
+use Rattle.text_lines.specs.Reads.{FindsOne}
 use Rattle.app_serve.specs.ReadingsLine.{SayTimed}
 use Rattle.app_serve.proofs.readings_line.read_line.Goals as goal
 

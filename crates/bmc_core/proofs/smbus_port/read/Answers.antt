@@ -1,7 +1,7 @@
 use Rattle.std.proofs.Common.{rules, ◌≡◌, Bool, true, false, refl, sym, ◌∙◌, ap, subst}
 use Rattle.mctp_net.specs.Assembly.{Assemblies, message_of}
 use Rattle.mctp_net.specs.Places.{seen}
-use Rattle.model_ports.specs.PortSteps.{PortState}
+use Rattle.bmc_core.specs.PortSteps.{PortState}
 use Rattle.bmc_core.specs.SmbusHeard.{message_heard}
 use Rattle.bmc_core.specs.SmbusShown.{HasHeard, HasTaken}
 use Rattle.bmc_core.proofs.SmbusPorts.{hearing_fault, hearing_packet}

@@ -1,4 +1,4 @@
-use Rattle.undo_greeting.specs.Greeter.{quiet_at}
+use Rattle.undo_plans.specs.Greeter.{quiet_at}
 use Rattle.bmc_ports.proofs.Greeting.{called_by, refused_by}
 use Rattle.bmc_ports.proofs.greeter.be_quiet.Goals as goal
 

@@ -1,5 +1,5 @@
 use Rattle.std.proofs.Common.{None, false, inl, inr, refl, arith}
-use Rattle.undo_greeting.specs.Greeter.{is_heeded}
+use Rattle.undo_plans.specs.Greeter.{is_heeded}
 use Rattle.bmc_ports.specs.Greeted.{moment, state}
 use Rattle.bmc_ports.proofs.Greeting.{awaited, drives_both, none_awaited, stays}
 use Rattle.bmc_ports.proofs.greeter.make_turns.Goals as goal

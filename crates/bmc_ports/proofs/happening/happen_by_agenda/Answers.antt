@@ -1,6 +1,6 @@
 use Rattle.std.proofs.Common.{◌≡◌, ◌∙◌, refl, sym, subst, ℕ, Bool, Some}
-use Rattle.bmc_history.specs.declared.event.Call.{Call}
-use Rattle.bmc_history.specs.declared.event.Call.TheVariants.{Benched}
+use Rattle.bmc_shared.specs.declared.event.Call.{Call}
+use Rattle.bmc_shared.specs.declared.event.Call.TheVariants.{Benched}
 use Rattle.bmc_ports.specs.Timing.{GainsCalls, event_at}
 use Rattle.bmc_ports.proofs.Timing.{gains_more}
 use Rattle.bmc_ports.proofs.happening.happen_by_agenda.Goals as goal

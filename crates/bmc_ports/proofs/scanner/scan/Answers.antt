@@ -1,8 +1,8 @@
 use Rattle.std.proofs.Common.{rules, Some, slice_get, ◌≡◌, ◌++◌, ◌<◌, List, [], ◌∷◌, length, ap, arith, ◌∙◌, refl}
 use Rattle.std.proofs.lemmas.List.{append_assoc, length-append}
 use Rattle.std.proofs.lemmas.Option.{slice_get_read}
-use Rattle.bmc_history.specs.declared.event.Call.{Call}
-use Rattle.bmc_history.specs.declared.event.Call.TheVariants.{Benched}
+use Rattle.bmc_shared.specs.declared.event.Call.{Call}
+use Rattle.bmc_shared.specs.declared.event.Call.TheVariants.{Benched}
 use Rattle.bmc_ports.proofs.Scanning.{happens_on}
 use Rattle.bmc_ports.proofs.scanner.scan.Goals as goal
 

@@ -1,6 +1,6 @@
 use Rattle.std.proofs.Common.{◌≡◌, ◌≤◌, ◌++◌, List, length, take}
 use Rattle.std.specs.List.{AllZip}
-use Rattle.bmc_history.specs.declared.event.Call.{Call}
+use Rattle.bmc_shared.specs.declared.event.Call.{Call}
 use Rattle.bmc_ports.specs.Scanning.{BenchCall}
 use Rattle.bmc_ports.proofs.scanner.scan.Given as goal
 

@@ -1,5 +1,5 @@
 use Rattle.std.proofs.Common.{◌≡◌, ◌∙◌, subst, sym, ℕ, List, refl, arith}
-use Rattle.model_ports.specs.PortSteps.{PortState}
+use Rattle.bmc_core.specs.PortSteps.{PortState}
 use Rattle.bmc_core.specs.Port.{Represents}
 use Rattle.model_bus.specs.Request.{requester_bytes}
 use Rattle.bmc_ports.specs.Silence.{idles_all, silent_among}

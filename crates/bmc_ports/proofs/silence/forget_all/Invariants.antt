@@ -1,5 +1,5 @@
 use Rattle.std.proofs.Common.{◌≡◌}
-use Rattle.model_ports.specs.PortSteps.{PortState}
+use Rattle.bmc_core.specs.PortSteps.{PortState}
 use Rattle.bmc_core.specs.Port.{Represents, bus_of}
 use Rattle.bmc_ports.specs.Silence.{idles_all, silent_among}
 use Rattle.bmc_ports.proofs.silence.forget_all.Given as goal

@@ -1,6 +1,6 @@
 use Rattle.std.proofs.Common.{◌+◌, ◌∷◌, ◌++◌, [], List, length, take, drop, sym, ◌∙◌, ap, subst, arith}
 use Rattle.std.proofs.lemmas.List.{take_more, take_all, length-take, take-append-drop, drop_more}
-use Rattle.text_schedule.specs.declared.event.Event.{Event}
+use Rattle.text_lines.specs.declared.event.Event.{Event}
 use Rattle.lab_play.specs.Restarts.{turns_of}
 use Rattle.lab_play.specs.Restarting.{TakesTurns, WatchesTurns, NotesTurnsOf}
 use Rattle.lab_play.proofs.Turns.{takes_one_more, stops_at, watches_more, watches_none, watches_before, noted_step, noted_before}

@@ -2,7 +2,7 @@ use Rattle.std.proofs.Common.{subst}
 use Rattle.std.proofs.lemmas.Result.{IfOk-weaker}
 use Rattle.undo_plans.specs.declared.names.Names.{Names}
 use Rattle.model_lab.specs.Meaning.{lab_names as the_names}
-use Rattle.model_ports.specs.PortSteps.{quiet_port}
+use Rattle.bmc_core.specs.PortSteps.{quiet_port}
 use Rattle.bmc_core.specs.IpmbShown.{Represents}
 use Rattle.lab_run.proofs.lab_state.opened_ipmb.Goals as goal
 

@@ -3,9 +3,9 @@ use Rattle.std.specs.List.{AllZip}
 use Rattle.two_wire.specs.declared.Bus.TheVariants as bus
 use Rattle.mctp_net.specs.declared.packet.Packet.{Packet}
 use Rattle.mctp_net.specs.declared.message.Message.{Message}
-use Rattle.model_ports.specs.Values.{Part, parts_of, IsFrameOn}
+use Rattle.bmc_core.specs.Values.{Part, parts_of, IsFrameOn}
 use Rattle.model_lab.specs.Meaning.{message_of}
-use Rattle.model_ports.proofs.Written.{message_read}
+use Rattle.bmc_core.proofs.Written.{message_read}
 use Rattle.lab_run.proofs.port_side.message_frames.Goals as goal
 
 pub returns : goal.returns

@@ -1,5 +1,5 @@
 use Rattle.std.proofs.Common.{List, ℕ, sym, ◌∙◌, subst, inl, inr}
-use Rattle.undo_journal.specs.Journals.{kept_of, kept_in}
+use Rattle.undo_plans.specs.Journals.{kept_of, kept_in}
 use Rattle.text_journal.specs.JournalText.{IsTextOf}
 use Rattle.text_journal.proofs.JournalLaws.{one_journal_of, apart}
 use Rattle.lab_run.proofs.restart.kept_journal.Goals as goal

@@ -1,4 +1,4 @@
-use Rattle.undo_journal.specs.Journals.{kept_in}
+use Rattle.undo_plans.specs.Journals.{kept_in}
 use Rattle.lab_run.proofs.Restarts.{made_again}
 use Rattle.lab_run.proofs.restart.revived.Goals as goal
 

@@ -1,5 +1,5 @@
 use Rattle.std.proofs.Common.{refl, string_bytes}
-use Rattle.undo_journal.specs.Journals.{kept_in}
+use Rattle.undo_plans.specs.Journals.{kept_in}
 use Rattle.text_check.specs.Staged.{AreStageLines, stage_line, step_words}
 use Rattle.text_check.proofs.Lined.{on_ok, tells_one}
 use Rattle.text_check.proofs.staged.push_other_stage.Goals as goal

@@ -1,6 +1,6 @@
 use Rattle.std.proofs.Common.{◌++◌, [], List, Option, ℕ, codes, refl, string_bytes, subst, sym}
 use Rattle.record_base.specs.declared.message.Asked.{Asked}
-use Rattle.undo_journal.specs.Journals.{kept_in}
+use Rattle.undo_plans.specs.Journals.{kept_in}
 use Rattle.record_words.specs.RequestWords.{undo_words_of}
 use Rattle.text_check.specs.Staged.{AreStageLines, IsBack, stage_line}
 use Rattle.text_check.proofs.Lined.{on_ok, tells_one}

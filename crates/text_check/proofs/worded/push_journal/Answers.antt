@@ -1,6 +1,6 @@
 use Rattle.std.proofs.Common.{◌∙◌, ap, length, refl, string_bytes, subst, ℕ}
 use Rattle.text_check.specs.Telling.{Tells}
-use Rattle.undo_journal.specs.Journals.{kept_in}
+use Rattle.undo_plans.specs.Journals.{kept_in}
 use Rattle.text_check.specs.Staged.{AreStageLines, AreWaitingLines, left_at, set_at}
 use Rattle.text_check.specs.Worded.{AreJournalLines, AreUndoLines}
 use Rattle.text_check.proofs.Lined.{on_ok, tells_three}

@@ -1,5 +1,5 @@
 use Rattle.std.proofs.Common.{inl, inr, refl, string_bytes}
-use Rattle.undo_journal.specs.Journals.{kept_in}
+use Rattle.undo_plans.specs.Journals.{kept_in}
 use Rattle.text_check.specs.declared.text_form.TextForm.TheVariants as looks
 use Rattle.text_check.specs.Worded.{AreJournalLines, AreWords}
 use Rattle.text_check.proofs.FaultyWords.{journal_bad}

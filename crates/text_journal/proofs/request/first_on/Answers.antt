@@ -1,5 +1,5 @@
 use Rattle.std.proofs.Common.{List, ℕ, sym, subst}
-use Rattle.text_undo.specs.UndoText.{BeginsWith}
+use Rattle.text_lines.specs.UndoText.{BeginsWith}
 use Rattle.text_journal.specs.JournalLines.{IsBytesLine}
 use Rattle.text_journal.proofs.request.first_on.Goals as goal
 

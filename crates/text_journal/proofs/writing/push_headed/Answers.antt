@@ -2,8 +2,8 @@ use Rattle.std.proofs.Common.{◌≡◌, ◌++◌, ◌∷◌, [], ◌∙◌, ℕ
 use Rattle.std.specs.Prelude.{OnOk}
 use Rattle.hex.specs.Hex.{encode_upper}
 use Rattle.text_lines.specs.Cuts.{ended}
-use Rattle.text_undo.specs.UndoText.{name_of}
-use Rattle.text_undo.proofs.UndoLines.{bytes_cons, digits_behind}
+use Rattle.text_lines.specs.UndoText.{name_of}
+use Rattle.text_lines.proofs.UndoLines.{bytes_cons, digits_behind}
 use Rattle.text_journal.proofs.WrittenBytes.{on_ok, written_bytes}
 use Rattle.text_journal.proofs.WrittenDigits.{line_of_both}
 use Rattle.text_journal.proofs.writing.push_headed.Goals as goal

@@ -4,8 +4,8 @@ use Rattle.std.specs.List.{flat_map}
 use Rattle.text_lines.specs.Cuts.{ended}
 use Rattle.record_base.specs.declared.message.Asked.{Asked}
 use Rattle.undo_plans.specs.Requests.{meant}
-use Rattle.undo_journal.specs.Journals.{kept_of}
-use Rattle.undo_journal.specs.Kept.{waiting_at}
+use Rattle.undo_plans.specs.Journals.{kept_of}
+use Rattle.undo_plans.specs.KeptManager.{waiting_at}
 use Rattle.text_journal.specs.Written.{text_of, lines_of, head_lines, step_lines, undo_lines, waiting_lines, state_lines, IsWaitingLine}
 use Rattle.text_journal.proofs.WrittenBytes.{waits_so}
 use Rattle.text_journal.proofs.WrittenLines.{lines_say}

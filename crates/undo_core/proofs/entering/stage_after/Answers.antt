@@ -5,7 +5,7 @@ use Rattle.undo_core.specs.declared.stage.Task.TheVariants.{Gets}
 use Rattle.undo_core.specs.Bounds.{replies_left, left_of, FewerAreLeft}
 use Rattle.undo_core.specs.Entered.{AfterTask}
 use Rattle.undo_core.specs.Stages.{kept_task}
-use Rattle.undo_journal.specs.Kept.{Waits}
+use Rattle.undo_plans.specs.KeptManager.{Waits}
 use Rattle.undo_core.proofs.entering.stage_after.Goals as goal
 
 pub returns-in-Gets-clause-after : goal.returns-in-Gets-clause-after

@@ -1,8 +1,8 @@
 use Rattle.std.proofs.Common.{◌≡◌, ◌==◌, ◌&&◌, not, Bool, true, false, sym, ◌∙◌, ap, arith}
 use Rattle.std.proofs.lemmas.Bool.{true≢false}
 use Rattle.model_bus.specs.Bytes.{ipmb_answers, is_busy_code}
-use Rattle.model_ports.specs.Wires.{bytes_of}
-use Rattle.model_ports.specs.Bytes.{response_bytes}
+use Rattle.bmc_core.specs.Wires.{bytes_of}
+use Rattle.bmc_core.specs.Bytes.{response_bytes}
 use Rattle.undo_core.specs.Shown.{own}
 use Rattle.undo_core.proofs.Heard.{ipmb_by_fields}
 use Rattle.undo_core.proofs.hearing.is_answer_to.Goals.{then-eq, else-eq}

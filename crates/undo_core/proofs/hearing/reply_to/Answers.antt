@@ -2,7 +2,7 @@ use Rattle.std.proofs.Common.{◌≡◌, ◌≤◌, ℕ, ◌-◌, ◌&&◌, not,
 use Rattle.std.specs.Prelude.{slice_index}
 use Rattle.std.proofs.Math.Seq.{take-length}
 use Rattle.model_bus.specs.Bytes.{pldm_answers, is_busy_code}
-use Rattle.model_ports.specs.Wires.{bytes_of, answered_from}
+use Rattle.bmc_core.specs.Wires.{bytes_of, answered_from}
 use Rattle.two_wire.specs.declared.Bus.TheVariants.{Smbus}
 use Rattle.undo_core.specs.Shown.{own, is_header_of}
 use Rattle.undo_core.proofs.Heard.{pldm_by_fields}

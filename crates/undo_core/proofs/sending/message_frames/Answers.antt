@@ -4,8 +4,8 @@ use Rattle.two_wire.specs.declared.Bus.TheVariants.{Smbus}
 use Rattle.mctp_net.specs.declared.packet.Packet.{Packet}
 use Rattle.mctp_net.specs.declared.message.Message.{Message}
 use Rattle.model_bus.specs.Bytes.{pldm_request}
-use Rattle.model_ports.specs.Values.{Part, written, parts_of, IsFrameOn}
-use Rattle.model_ports.proofs.Written.{message_written, message_read}
+use Rattle.bmc_core.specs.Values.{Part, written, parts_of, IsFrameOn}
+use Rattle.bmc_core.proofs.Written.{message_written, message_read}
 use Rattle.undo_core.proofs.sending.message_frames.Goals as goal
 
 pub returns : goal.returns

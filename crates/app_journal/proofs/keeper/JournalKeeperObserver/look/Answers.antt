@@ -1,6 +1,6 @@
 use Rattle.std.proofs.Common.{◌∙◌, ap, inl, inr, refl, string_bytes, subst}
 use Rattle.std.specs.Prelude.{not}
-use Rattle.undo_journal.specs.Kept.{Kept}
+use Rattle.undo_plans.specs.KeptManager.{Kept}
 use Rattle.text_journal.specs.JournalText.{IsTextOf}
 use Rattle.text_journal.specs.Written.{text_of}
 use Rattle.app_journal.specs.Keeping.{has_open}

@@ -1,5 +1,5 @@
 use Rattle.std.proofs.Common.{ℕ, add-one, sym, subst}
-use Rattle.look_links.specs.declared.driver.LookEnd.{LookEnd}
+use Rattle.app_look.specs.declared.look_driver.LookEnd.{LookEnd}
 use Rattle.app_look.specs.Looking.{CallsAgain}
 use Rattle.app_look.proofs.session.Session.go_on.Goals as goal
 

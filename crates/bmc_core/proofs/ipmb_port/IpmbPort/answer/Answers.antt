@@ -1,7 +1,7 @@
 use Rattle.std.proofs.Common.{◌≡◌, Bool, true, subst}
 use Rattle.ipmb_frame.specs.declared.message.Request.{Request}
 use Rattle.model_bus.specs.Carried.{IsNew}
-use Rattle.model_ports.specs.PortSteps.{PortState}
+use Rattle.bmc_core.specs.PortSteps.{PortState}
 use Rattle.bmc_core.specs.declared.ipmb_port.IpmbPort.{IpmbPort}
 use Rattle.bmc_core.specs.IpmbShown.{Represents, outcome_at, IsSettled, AnswerStep}
 use Rattle.bmc_core.proofs.IpmbDeeds.{answered_settled, answered_new, is_new}

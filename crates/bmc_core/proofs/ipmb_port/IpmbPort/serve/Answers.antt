@@ -2,7 +2,7 @@ use Rattle.std.proofs.Common.{rules, ◌≡◌, Option, Some, None, refl, subst}
 use Rattle.std.specs.Prelude.{IfSome}
 use Rattle.ipmb_frame.specs.declared.message.Request.{Request}
 use Rattle.model_bus.specs.Carried.{IsNew}
-use Rattle.model_ports.specs.PortSteps.{PortState}
+use Rattle.bmc_core.specs.PortSteps.{PortState}
 use Rattle.bmc_core.specs.IpmbShown.{WindowsHold, IsNewRequest, IsHeardAt, outcome_at}
 use Rattle.bmc_core.proofs.IpmbServing.{heard_so, refused_so, carried_so}
 use Rattle.bmc_core.proofs.ipmb_port.IpmbPort.serve.Goals as goal

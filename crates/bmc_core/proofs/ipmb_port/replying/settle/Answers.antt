@@ -2,11 +2,11 @@ use Rattle.std.proofs.Common.{◌≡◌, Some, List, ℕ, [], ◌∷◌, refl, s
 use Rattle.model_bus.specs.Request.{Request as Asking}
 use Rattle.model_bus.specs.Numbering.{is_above}
 use Rattle.model_bus.specs.Carried.{Outcome, Repeats, outcome}
-use Rattle.bmc_windows.specs.Heard.{outcome_of_found}
+use Rattle.bmc_core.specs.Heard.{outcome_of_found}
 use Rattle.bmc_core.specs.declared.out.Disposition.TheVariants as done
 use Rattle.bmc_core.specs.Outs.{sends}
-use Rattle.model_ports.specs.Bytes.{heard_in}
-use Rattle.model_ports.specs.PortSteps.{response_after}
+use Rattle.bmc_core.specs.Bytes.{heard_in}
+use Rattle.bmc_core.specs.PortSteps.{response_after}
 use Rattle.bmc_core.specs.IpmbShown.{reading, whole, IsKeptResponse, IsSent, response, response_frame, IsSettled}
 use Rattle.bmc_core.proofs.OwnBytes.{response_read}
 use Rattle.bmc_core.proofs.IpmbRepeats.{found_answers}

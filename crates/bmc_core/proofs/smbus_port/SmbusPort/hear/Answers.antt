@@ -1,7 +1,7 @@
 use Rattle.std.proofs.Common.{rules, ◌≡◌, Option, Some, None, refl, sym, ◌∙◌, ap, subst}
 use Rattle.mctp_net.specs.declared.packet.Packet.{Packet}
 use Rattle.mctp_net.specs.Places.{seen}
-use Rattle.model_ports.specs.PortSteps.{PortState}
+use Rattle.bmc_core.specs.PortSteps.{PortState}
 use Rattle.bmc_core.specs.declared.step.Step.TheVariants as step
 use Rattle.bmc_core.specs.declared.smbus_port.SmbusPort.{SmbusPort}
 use Rattle.bmc_core.specs.declared.smbus_port.pending.SmbusPending.{SmbusPending}

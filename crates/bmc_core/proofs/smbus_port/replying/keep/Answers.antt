@@ -3,7 +3,7 @@ use Rattle.mctp_net.specs.declared.packet.Envelope.{Envelope}
 use Rattle.model_bus.specs.Request.{Request as Asking, Carried}
 use Rattle.model_bus.specs.Numbering.{is_above}
 use Rattle.model_bus.specs.Carried.{outcome}
-use Rattle.bmc_windows.specs.Keeps.{WindowsKeep}
+use Rattle.bmc_core.specs.Keeps.{WindowsKeep}
 use Rattle.bmc_core.specs.declared.out.Disposition.TheVariants as done
 use Rattle.bmc_core.specs.SmbusHeard.{InMessage}
 use Rattle.bmc_core.specs.SmbusShown.{pldm_reading, ReplyPackets}

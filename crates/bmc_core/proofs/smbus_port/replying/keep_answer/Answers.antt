@@ -3,7 +3,7 @@ use Rattle.two_wire.specs.declared.Bus.TheVariants.{Smbus}
 use Rattle.pldm_base.specs.declared.message.Header.{Header}
 use Rattle.pldm_base.specs.Message.{reply_start}
 use Rattle.model_bus.specs.Request.{Carried}
-use Rattle.model_ports.specs.PortSteps.{spelled}
+use Rattle.bmc_core.specs.PortSteps.{spelled}
 use Rattle.bmc_core.specs.declared.out.Disposition.TheVariants as done
 use Rattle.bmc_core.specs.SmbusHeard.{InMessage, asking}
 use Rattle.bmc_core.specs.SmbusShown.{WindowsHold, ReplyPackets}

@@ -4,7 +4,7 @@ use Rattle.two_wire.specs.Codes.{pldm_not_ready}
 use Rattle.mctp_net.specs.declared.packet.Envelope.{Envelope}
 use Rattle.pldm_base.specs.declared.message.Header.{Header}
 use Rattle.pldm_base.specs.Message.{reply_start}
-use Rattle.model_ports.specs.Bytes.{said}
+use Rattle.bmc_core.specs.Bytes.{said}
 use Rattle.bmc_core.specs.declared.out.Disposition.TheVariants as done
 use Rattle.bmc_core.specs.SmbusHeard.{InMessage, asking, busy_reply}
 use Rattle.bmc_core.specs.SmbusShown.{ReplyPackets}

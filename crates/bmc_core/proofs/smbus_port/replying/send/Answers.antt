@@ -1,11 +1,11 @@
 use Rattle.std.proofs.Common.{◌≡◌, ◌<◌, ◌≤◌, ℕ, List, length, map, false, sym, ◌∙◌, ap, subst}
 use Rattle.two_wire.specs.declared.Bus.TheVariants.{Smbus}
 use Rattle.mctp_net.specs.declared.message.Message.{Message}
-use Rattle.model_ports.specs.Values.{Part, written, parts_of}
+use Rattle.bmc_core.specs.Values.{Part, written, parts_of}
 use Rattle.bmc_core.specs.Outs.{sends, ReadBack}
 use Rattle.bmc_core.specs.SmbusShown.{frames_from}
 use Rattle.bmc_core.proofs.OwnBytes.{message_read}
-use Rattle.model_ports.proofs.Written.{message_written}
+use Rattle.bmc_core.proofs.Written.{message_written}
 use Rattle.bmc_core.proofs.smbus_port.replying.send.Goals as goal
 
 pub returns : goal.returns

@@ -3,8 +3,8 @@ use Rattle.two_wire.specs.declared.Bus.TheVariants.{Smbus}
 use Rattle.model_bus.specs.Request.{Request as Asking}
 use Rattle.model_bus.specs.Numbering.{is_above}
 use Rattle.model_bus.specs.Carried.{Outcome, Repeats, IsBusy, IsNew, outcome}
-use Rattle.model_ports.specs.Values.{Value}
-use Rattle.model_ports.specs.Bytes.{said}
+use Rattle.bmc_core.specs.Values.{Value}
+use Rattle.bmc_core.specs.Bytes.{said}
 use Rattle.bmc_core.specs.declared.out.Disposition.TheVariants as done
 use Rattle.bmc_core.specs.Outs.{sends, ReadBack}
 use Rattle.bmc_core.specs.SmbusHeard.{InMessage, asking}

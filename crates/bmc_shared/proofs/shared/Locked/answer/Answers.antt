@@ -1,6 +1,6 @@
 use Rattle.std.proofs.Common.{ℕ, ◌+◌, ◌∙◌, ap}
 use Rattle.bmc_board.specs.Asking.{as_asked}
-use Rattle.bmc_history.specs.declared.event.Call.TheVariants.{Exchanged}
+use Rattle.bmc_shared.specs.declared.event.Call.TheVariants.{Exchanged}
 use Rattle.bmc_shared.proofs.Keeping.{has_place_left, has_part, one_more_counted, clash}
 use Rattle.bmc_shared.proofs.shared.Locked.answer.Goals as goal
 

@@ -1,5 +1,5 @@
 use Rattle.std.proofs.Common.{◌∙◌, refl, sym, length}
-use Rattle.bmc_history.specs.declared.event.Call.TheVariants.{Benched}
+use Rattle.bmc_shared.specs.declared.event.Call.TheVariants.{Benched}
 use Rattle.bmc_shared.proofs.Keeping.{has_place_left, has_room, has_part, one_more_counted, clash}
 use Rattle.bmc_shared.proofs.shared.Locked.bench.Goals as goal
 

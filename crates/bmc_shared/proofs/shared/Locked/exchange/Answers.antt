@@ -2,7 +2,7 @@ use Rattle.std.proofs.Common.{◌≡◌, ◌≤◌, ℕ, List, length, ap, subst
 use Rattle.record_base.specs.Meaning.{room_for}
 use Rattle.bmc_board.specs.Gives.{GivesReply}
 use Rattle.bmc_board.specs.Asking.{as_asked}
-use Rattle.bmc_history.proofs.Here.{room_is, exchanged_as}
+use Rattle.bmc_shared.proofs.Here.{room_is, exchanged_as}
 use Rattle.bmc_shared.proofs.Keeping.{kept_as}
 use Rattle.bmc_shared.proofs.shared.Locked.exchange.Goals as goal
 

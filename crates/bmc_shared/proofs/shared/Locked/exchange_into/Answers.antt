@@ -2,7 +2,7 @@ use Rattle.std.proofs.Common.{◌≡◌, ℕ, List, length, drop, refl, sym, ◌
 use Rattle.std.specs.Prelude.{OnErr}
 use Rattle.bmc_board.specs.Asking.{as_asked}
 use Rattle.bmc_board.specs.Carrying.{code_given}
-use Rattle.bmc_history.specs.Entries.{exchanged}
+use Rattle.bmc_shared.specs.Entries.{exchanged}
 use Rattle.bmc_shared.proofs.Keeping.{keeps_here, starts_within, fits_behind, has_place, still_counted, leaves_seat}
 use Rattle.bmc_shared.proofs.shared.Locked.exchange_into.Goals as goal
 

@@ -3,7 +3,7 @@ use Rattle.two_wire.specs.declared.Bus.TheVariants.{Ipmb, Smbus}
 use Rattle.undo_plans.specs.declared.names.Names.{Names}
 use Rattle.bmc_board.specs.Table.{is_changing}
 use Rattle.model_undo.specs.Machine.{open_bus}
-use Rattle.model_ports.specs.PortSteps.{asked_in}
+use Rattle.bmc_core.specs.PortSteps.{asked_in}
 use Rattle.model_lab.specs.ManagerSteps.{board_plans}
 use Rattle.model_lab.specs.Lab.{Lab, Noise, Idles}
 use Rattle.model_lab.specs.Faults.{fault_of as fault_of_event, message_changes}

@@ -6,7 +6,7 @@ use Rattle.bmc_board.specs.Sensing.{bench_of}
 use Rattle.bmc_board.proofs.SensingFacts.{benched_so}
 use Rattle.model_lab.specs.Lab.{step}
 use Rattle.model_lab.specs.Meaning.{on_board}
-use Rattle.text_schedule.specs.declared.event.Event.{Event}
+use Rattle.text_lines.specs.declared.event.Event.{Event}
 use Rattle.model_lab.specs.Faults.{is_frame}
 use Rattle.model_lab.specs.Played.{fault_at, happens}
 use Rattle.lab_run.specs.declared.lab_state.Lab.{Lab}

@@ -1,6 +1,6 @@
 use Rattle.std.proofs.Common.{[], subst, sym}
 use Rattle.bmc_core.specs.declared.out.Out.{Out}
-use Rattle.model_ports.specs.PortSteps.{hears}
+use Rattle.bmc_core.specs.PortSteps.{hears}
 use Rattle.model_lab.specs.declared.way.Way.TheVariants.{ToOthers}
 use Rattle.model_lab.specs.Lab.{port_on, with_port}
 use Rattle.model_lab.specs.Played.{plans}

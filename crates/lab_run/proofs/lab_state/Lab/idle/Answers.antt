@@ -3,7 +3,7 @@ use Rattle.two_wire.specs.declared.Bus.{Bus}
 use Rattle.two_wire.specs.declared.Bus.TheVariants.{Ipmb, Smbus}
 use Rattle.undo_plans.specs.declared.names.Names.{Names}
 use Rattle.model_lab.specs.Lab.{with_port, port_on}
-use Rattle.model_ports.specs.PortSteps.{idles}
+use Rattle.bmc_core.specs.PortSteps.{idles}
 use Rattle.model_lab.specs.Played.{plans}
 use Rattle.lab_run.specs.Shown.{Represents}
 use Rattle.lab_run.proofs.Idling.{one_more, no_more, forgot_ipmb, forgot_smbus}

@@ -2,12 +2,12 @@ use Rattle.std.proofs.Common.{◌≡◌, ℕ, suc, ◌+◌, List, ◌∷◌, [],
 use Rattle.std.specs.List.{AllZip}
 use Rattle.two_wire.specs.declared.Bus.TheVariants as bus
 use Rattle.undo_plans.specs.declared.names.Names.{Names}
-use Rattle.model_ports.specs.Values.{IsFrameOn}
+use Rattle.bmc_core.specs.Values.{IsFrameOn}
 use Rattle.model_lab.specs.declared.way.Way.TheVariants.{ToOthers}
 use Rattle.model_lab.specs.Lab.{port_does}
 use Rattle.model_lab.specs.Meaning.{lab_names, message_of}
 use Rattle.model_lab.specs.Played.{plans}
-use Rattle.text_schedule.specs.declared.event.OtherMessage.{OtherMessage}
+use Rattle.text_lines.specs.declared.event.OtherMessage.{OtherMessage}
 use Rattle.lab_run.specs.Hearing.{packets_of}
 use Rattle.lab_run.proofs.Sent.{at_place}
 use Rattle.lab_run.proofs.Deeds.{hears_each}

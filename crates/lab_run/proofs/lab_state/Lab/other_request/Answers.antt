@@ -1,7 +1,7 @@
 use Rattle.std.proofs.Common.{sym, subst}
 use Rattle.undo_plans.specs.declared.names.Names.{Names}
 use Rattle.ipmb_frame.specs.Grammar.{IsRequest}
-use Rattle.model_ports.specs.Values.{Asks}
+use Rattle.bmc_core.specs.Values.{Asks}
 use Rattle.model_lab.specs.Meaning.{lab_names, request_of}
 use Rattle.lab_run.proofs.Sent.{on_ok}
 use Rattle.lab_run.proofs.lab_state.Lab.other_request.Goals as goal

@@ -1,7 +1,7 @@
 use Rattle.std.proofs.Common.{◌∙◌, Bool, Some, sym, ap, subst}
 use Rattle.two_wire.specs.declared.Bus.{Bus}
 use Rattle.mctp_net.specs.Grammar.{IsPacket}
-use Rattle.model_ports.specs.Values.{IsFrameOn}
+use Rattle.bmc_core.specs.Values.{IsFrameOn}
 use Rattle.lab_run.specs.declared.part.ManagerPart.{ManagerPart}
 use Rattle.lab_run.proofs.Parts.{some_on_smbus, looked_at, no_error, ok_same}
 use Rattle.lab_run.proofs.lab_state.Lab.packet_of.Goals as goal

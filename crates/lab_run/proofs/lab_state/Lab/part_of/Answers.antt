@@ -1,7 +1,7 @@
 use Rattle.std.proofs.Common.{rules, ◌≡◌, ◌∙◌, subst}
 use Rattle.two_wire.specs.declared.Bus.{Bus}
 use Rattle.two_wire.specs.declared.Bus.TheVariants.{Ipmb, Smbus}
-use Rattle.model_ports.specs.Values.{IsFrameOn}
+use Rattle.bmc_core.specs.Values.{IsFrameOn}
 use Rattle.lab_run.proofs.Parts.{none_on_ipmb}
 use Rattle.lab_run.proofs.lab_state.Lab.part_of.Goals as goal
 

@@ -1,7 +1,7 @@
 use Rattle.std.proofs.Common.{◌≡◌, sym, ◌∙◌, ap, subst}
 use Rattle.lab_run.specs.declared.ages.FrameAge.{FrameAge}
-use Rattle.model_ports.specs.Values.{IsFrameOn}
-use Rattle.model_ports.specs.PortSteps.{hears}
+use Rattle.bmc_core.specs.Values.{IsFrameOn}
+use Rattle.bmc_core.specs.PortSteps.{hears}
 use Rattle.model_lab.specs.declared.way.Way.TheVariants.{ToManager}
 use Rattle.model_lab.specs.Lab.{port_on, with_port, with_frames}
 use Rattle.bmc_core.specs.declared.out.Out.{Out}

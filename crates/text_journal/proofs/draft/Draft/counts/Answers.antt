@@ -1,6 +1,6 @@
 use Rattle.std.proofs.Common.{sym, subst}
 use Rattle.std.proofs.Common.{length}
-use Rattle.undo_journal.specs.Kept.{AreFew}
+use Rattle.undo_plans.specs.KeptManager.{AreFew}
 use Rattle.text_journal.specs.JournalText.{kept_so_far}
 use Rattle.text_journal.proofs.FirstLines.{counts_once, refused}
 use Rattle.text_journal.proofs.draft.Draft.counts.Goals as goal

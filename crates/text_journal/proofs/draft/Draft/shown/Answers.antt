@@ -1,6 +1,6 @@
 use Rattle.std.proofs.Common.{◌≡◌, ◌≤◌, List, ℕ, codes, sym, ◌∙◌, subst}
 use Rattle.std.proofs.Common.{length}
-use Rattle.undo_journal.specs.Bounds.{most_kept}
+use Rattle.undo_plans.specs.Bounds.{most_kept}
 use Rattle.text_journal.proofs.FirstLines.{bytes_once, empty_is, refused}
 use Rattle.text_journal.proofs.draft.Draft.shown.Goals as goal
 

@@ -4,8 +4,8 @@ use Rattle.std.proofs.lemmas.Bool.{true≢false}
 use Rattle.model_bus.specs.Answered.{Answered}
 use Rattle.model_undo.specs.Words.{is_busy}
 use Rattle.model_bus.specs.Bytes.{ipmb_answers}
-use Rattle.model_ports.specs.Wires.{bytes_of}
-use Rattle.model_ports.specs.Bytes.{response_bytes}
+use Rattle.bmc_core.specs.Wires.{bytes_of}
+use Rattle.bmc_core.specs.Bytes.{response_bytes}
 use Rattle.model_lab.specs.ManagerSteps.{is_answer}
 use Rattle.undo_core.specs.Shown.{own, taken_if}
 use Rattle.undo_core.proofs.Heard.{heard_response, no_response, other_response}

@@ -12,7 +12,7 @@ use Rattle.undo_core.specs.Shown.{IsStepResult}
 use Rattle.undo_core.specs.Course.{Hears, InputResult}
 use Rattle.two_wire.specs.declared.Bus.{Bus}
 use Rattle.two_wire.specs.declared.Bus.TheVariants.{Ipmb, Smbus}
-use Rattle.model_ports.specs.Values.{Tells, Part}
+use Rattle.bmc_core.specs.Values.{Tells, Part}
 use Rattle.undo_core.proofs.Coming.{value_comes, no_response_comes, no_packet_comes}
 use Rattle.undo_core.proofs.Heard.{response_read, packet_read, is_packet_read}
 use Rattle.undo_core.proofs.manager.Manager.on_frame.Goals as goal

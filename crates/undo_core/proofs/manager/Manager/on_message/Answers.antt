@@ -4,7 +4,7 @@ use Rattle.std.proofs.lemmas.Bool.{true≢false}
 use Rattle.model_bus.specs.Answered.{Answered}
 use Rattle.model_undo.specs.Words.{is_busy}
 use Rattle.model_bus.specs.Bytes.{pldm_answers}
-use Rattle.model_ports.specs.Wires.{bytes_of}
+use Rattle.bmc_core.specs.Wires.{bytes_of}
 use Rattle.undo_core.specs.Shown.{own, IsStepResult}
 use Rattle.undo_core.proofs.Heard.{heard_message, no_message}
 use Rattle.undo_core.proofs.manager.Manager.on_message.Goals as goal

@@ -1,7 +1,7 @@
 use Rattle.std.proofs.Common.{rules, ◌≡◌, ◌≤◌, ◌<◌, ◌+◌, length, Bool, true, false, refl, ◌∙◌, ap, subst, arith}
 use Rattle.two_wire.specs.declared.Bus.{Bus}
 use Rattle.undo_plans.specs.Fitting.{most_requests}
-use Rattle.model_ports.specs.Wires.{bus_of}
+use Rattle.bmc_core.specs.Wires.{bus_of}
 use Rattle.model_bus.specs.Answered.{Answered}
 use Rattle.model_undo.specs.Words.{is_busy}
 use Rattle.model_undo.specs.Machine.{one_answered}

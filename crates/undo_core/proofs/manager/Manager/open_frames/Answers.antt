@@ -5,7 +5,7 @@ use Rattle.record_base.specs.declared.message.Asked.{Asked}
 use Rattle.record_base.specs.declared.message.Asked.TheVariants.{Ipmi, Pldm}
 use Rattle.undo_plans.specs.declared.names.Names.{Names}
 use Rattle.undo_plans.specs.Requests.{RequestList}
-use Rattle.model_ports.specs.Wires.{bus_of}
+use Rattle.bmc_core.specs.Wires.{bus_of}
 use Rattle.model_undo.specs.Machine as machine
 use Rattle.model_undo.specs.Machine.{Counts, count_of}
 use Rattle.model_lab.specs.ManagerSteps.{board_plans, values_of, Sent as AllSent, sent_of}

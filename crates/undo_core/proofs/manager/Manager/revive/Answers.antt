@@ -1,10 +1,10 @@
 use Rattle.std.proofs.Common.{rules, ◌≡◌, ◌+◌, ◌≤◌, ℕ, List, length, sym, ◌∙◌, ap, subst, arith}
 use Rattle.record_base.specs.declared.message.Asked.{Asked}
 use Rattle.undo_plans.specs.Requests.{RequestList}
-use Rattle.undo_journal.specs.declared.stage.KeptStage.{KeptStage}
-use Rattle.undo_journal.specs.declared.journal.Contents.{Contents}
-use Rattle.undo_journal.specs.Bounds.{most_replies}
-use Rattle.undo_journal.specs.Kept.{IsSound, waiting_at, stopped_at, replies_at}
+use Rattle.undo_plans.specs.declared.kept_stage.KeptStage.{KeptStage}
+use Rattle.undo_plans.specs.declared.journal.Contents.{Contents}
+use Rattle.undo_plans.specs.Bounds.{most_replies}
+use Rattle.undo_plans.specs.KeptManager.{IsSound, waiting_at, stopped_at, replies_at}
 use Rattle.undo_core.specs.declared.stage.Stage.{Stage}
 use Rattle.undo_core.specs.Bounds.{most_backs, replies_left}
 use Rattle.undo_core.specs.Placed.{IsPlaced}

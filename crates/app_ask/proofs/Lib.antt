@@ -1,9 +1,0 @@
-mod Found
-mod Hearing
-mod Carried
-mod Spelling
-mod Telling
-mod Parts
-mod Answering
-mod Turns
-mod FindingLines

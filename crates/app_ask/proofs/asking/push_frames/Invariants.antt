@@ -1,7 +1,0 @@
-use Rattle.std.proofs.Common.{◌≡◌, ◌++◌, string_bytes, take}
-use Rattle.std.specs.List.{flat_map}
-use Rattle.app_ask.specs.Reply.{bytes_line}
-use Rattle.app_ask.proofs.asking.push_frames.Given as goal
-
-abbrev pub invariant-loop-frame : goal.invariant-loop-frame
-invariant-loop-frame l = string_bytes l.text ≡ string_bytes l.fn.text ++ flat_map (bytes_line l.word) (take l.frame-index l.frames)

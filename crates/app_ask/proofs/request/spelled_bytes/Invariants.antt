@@ -1,6 +1,0 @@
-use Rattle.std.proofs.Common.{map, string_bytes, take}
-use Rattle.app_ask.specs.Request.{SpellBytes}
-use Rattle.app_ask.proofs.request.spelled_bytes.Given as goal
-
-abbrev pub invariant-loop-word : goal.invariant-loop-word
-invariant-loop-word l = SpellBytes (map string_bytes (take l.word-index l.words)) l.all.items

@@ -1,9 +1,0 @@
-pub mod Request
-pub mod Frames
-pub mod Reply
-pub mod Heard
-pub mod Run
-pub mod Files
-pub mod Answers
-pub mod Tries
-pub mod FindingWords

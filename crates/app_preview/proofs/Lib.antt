@@ -1,4 +1,0 @@
-pub mod Steps
-pub mod BoardSteps
-pub mod Telling
-pub mod Looked

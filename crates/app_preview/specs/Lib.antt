@@ -1,4 +1,0 @@
-pub mod Foreseeing
-pub mod Runs
-pub mod Outlooks
-pub mod Preview

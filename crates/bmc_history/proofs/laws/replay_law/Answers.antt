@@ -1,9 +1,0 @@
-use Rattle.bmc_history.proofs.Replaying.{goes_on}
-use Rattle.bmc_history.proofs.Following.{replays_by_relation}
-use Rattle.bmc_history.proofs.laws.replay_law.Goals as goal
-
-pub returns-clause-relation : goal.returns-clause-relation
-returns-clause-relation c = replays_by_relation
-
-pub returns-clause-goes_on : goal.returns-clause-goes_on
-returns-clause-goes_on c = goes_on

@@ -1,5 +1,0 @@
-pub mod Circles
-pub mod Rooms
-pub mod Tied
-pub mod Tables
-pub mod Finds

@@ -1,4 +1,0 @@
-pub mod Circle
-pub mod Window
-pub mod Keeps
-pub mod Heard

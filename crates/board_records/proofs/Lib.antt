@@ -1,4 +1,0 @@
-pub mod LimitsOf
-pub mod Written
-pub mod KeptStagings
-pub mod Apart

@@ -1,8 +1,0 @@
-use Rattle.board_records.proofs.Apart.{own_last, none_left}
-use Rattle.board_records.proofs.laws.staged_is_kept.Goals as goal
-
-pub returns-clause-staged : goal.returns-clause-staged
-returns-clause-staged c = own_last
-
-pub returns-clause-ended : goal.returns-clause-ended
-returns-clause-ended c = none_left

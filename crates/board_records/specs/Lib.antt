@@ -1,9 +1,0 @@
-pub mod PartData
-pub mod Entries
-pub mod Stagings
-pub mod StagingsLaws
-pub mod Replies
-pub mod Gives
-pub mod Sets
-pub mod SetParts
-pub mod Keeps

@@ -1,2 +1,0 @@
-pub mod BoardNames
-pub mod Changes

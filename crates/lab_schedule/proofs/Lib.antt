@@ -1,5 +1,0 @@
-pub mod Cleanly
-pub mod Offers
-pub mod Deliveries
-pub mod CleanKeeps
-pub mod Carried

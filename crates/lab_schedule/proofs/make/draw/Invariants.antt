@@ -1,7 +1,0 @@
-use Rattle.std.proofs.Common.{◌≡◌, ◌≤◌, length}
-use Rattle.lab_schedule.specs.Drawn.{HasFew, StaysDrawn}
-use Rattle.lab_schedule.proofs.make.draw.Given as goal
-
-abbrev pub invariant-loop-offered : goal.invariant-loop-offered
-invariant-loop-offered l =
-    HasFew l.drawing × (length l.drawing.events.items ≤ l._offered) × (l.drawing.late ≡ l.initial.drawing.late) × StaysDrawn l.initial.drawing l.drawing

@@ -1,2 +1,0 @@
-pub mod Buses
-pub mod Looking

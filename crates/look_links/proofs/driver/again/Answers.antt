@@ -1,9 +1,0 @@
-use Rattle.undo_look.specs.Looks.{again_at, state_of}
-use Rattle.look_links.proofs.Looking.{called_by, refused_by}
-use Rattle.look_links.proofs.driver.again.Goals as goal
-
-pub returns-in-Ok : goal.returns-in-Ok
-returns-in-Ok c = called_by c.args.looker.now c.again.new.self c.in-Ok.sent (again_at (state_of c.args.looker.now) c.args.looker.now.stage) c.in-Ok.ensures
-
-pub returns-in-Err : goal.returns-in-Err
-returns-in-Err c = refused_by c.args.looker.now c.again.new.self _ (again_at (state_of c.args.looker.now) c.args.looker.now.stage) c.in-Err.ensures

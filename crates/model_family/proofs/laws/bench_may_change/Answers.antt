@@ -1,7 +1,0 @@
-use Rattle.model_family.proofs.laws.bench_may_change.Goals as goal
-use Rattle.model_undo.proofs.TwoBuses.{however_sent}
-use Rattle.model_family.specs.Board.{BenchMay}
-use Rattle.model_family.proofs.Board.{bench_may}
-
-pub returns : goal.returns
-returns c setup at = however_sent at (BenchMay setup at) (bench_may setup at)

@@ -1,7 +1,0 @@
-use Rattle.model_family.proofs.laws.quiet_requests_may_come.Goals as goal
-use Rattle.model_undo.proofs.TwoBuses.{however_sent}
-use Rattle.model_family.specs.Board.{QuietMay}
-use Rattle.model_family.proofs.Board.{quiet_may}
-
-pub returns : goal.returns
-returns c setup at = however_sent at (QuietMay setup at) (quiet_may setup at)

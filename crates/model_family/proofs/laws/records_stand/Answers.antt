@@ -1,7 +1,0 @@
-use Rattle.model_family.proofs.laws.records_stand.Goals as goal
-use Rattle.model_undo.proofs.RecordsRun.{records_stand}
-use Rattle.model_family.specs.Family.{family}
-use Rattle.model_family.proofs.IsFamily.{is_family}
-
-pub returns : goal.returns
-returns c setup at = records_stand (family setup at) (is_family setup at)

@@ -1,4 +1,0 @@
-pub mod Family
-pub mod Board
-pub mod Example
-pub mod PartsExample

@@ -1,2 +1,0 @@
-pub mod GreetingRequests
-pub mod LookRequests

@@ -1,8 +1,0 @@
-use Rattle.model_ports.proofs.PortEvents.{requests_leave_log, parts_leave_log}
-use Rattle.model_ports.proofs.laws.packets_leave_log.Goals as goal
-
-pub returns-clause-requests : goal.returns-clause-requests
-returns-clause-requests c = requests_leave_log
-
-pub returns-clause-packets : goal.returns-clause-packets
-returns-clause-packets c = parts_leave_log

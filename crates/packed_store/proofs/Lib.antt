@@ -1,4 +1,0 @@
-pub mod Entries
-pub mod Offsets
-pub mod Images
-pub mod Packs

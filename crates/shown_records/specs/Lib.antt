@@ -1,0 +1,11 @@
+pub mod Sensors
+pub mod Effecters
+pub mod Users
+pub mod Settings
+pub mod After
+pub mod Meaning
+pub mod Foresight
+pub mod ProbeLaws
+pub mod Probes
+pub mod AsItIs
+pub mod KeptText

@@ -1,4 +1,0 @@
-pub mod Body
-pub mod Packed
-pub mod Wanted
-pub mod Naming

@@ -1,9 +1,0 @@
-use Rattle.std.proofs.Common.{length}
-use Rattle.table_names.proofs.Body.{IsLeft}
-use Rattle.table_names.proofs.entries.find_in_body.Given as goal
-
-abbrev pub invariant-loop-rest : goal.invariant-loop-rest
-invariant-loop-rest l = IsLeft l.table l.bytes l.rest l.number
-
-abbrev pub decreases-loop-rest : goal.decreases-loop-rest
-decreases-loop-rest l = length l.rest

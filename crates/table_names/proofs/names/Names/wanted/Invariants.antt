@@ -1,7 +1,0 @@
-use Rattle.std.proofs.Common.{take}
-use Rattle.table_names.specs.Names.{AreWanted}
-use Rattle.table_names.proofs.names.Names.wanted.Given as goal
-
--- the names of the records before are wanted
-abbrev pub invariant-loop-key : goal.invariant-loop-key
-invariant-loop-key l = AreWanted (take l.key-index l.keys) l.names

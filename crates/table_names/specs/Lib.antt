@@ -1,4 +1,0 @@
-pub mod Entries
-pub mod Attributes
-pub mod Sensors
-pub mod Names

@@ -1,4 +1,0 @@
-pub mod Once
-pub mod TextLines
-pub mod Written
-pub mod Drained

@@ -1,9 +1,0 @@
-use Rattle.text_schedule.specs.Text.{lines_of}
-use Rattle.text_schedule.proofs.TextLines.{said_at, one_first}
-use Rattle.text_schedule.proofs.laws.refused_or_told.Goals as goal
-
-pub returns-clause-refused : goal.returns-clause-refused
-returns-clause-refused c text events number told bad = said_at (lines_of text) events bad.place bad.line told bad.there bad.bad
-
-pub returns-clause-first : goal.returns-clause-first
-returns-clause-first c text number other one two = one_first (lines_of text) number other one two

@@ -1,6 +1,0 @@
-use Rattle.std.proofs.Common.{map, take}
-use Rattle.text_schedule.specs.Schedule.{AreLinesOf}
-use Rattle.text_schedule.proofs.schedule.events_of.Given as goal
-
-abbrev pub invariant-loop-place : goal.invariant-loop-place
-invariant-loop-place l = AreLinesOf (map (λ x. x.now) (take l.place l.lines)) l.events.items

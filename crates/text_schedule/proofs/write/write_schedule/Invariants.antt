@@ -1,6 +1,0 @@
-use Rattle.std.proofs.Common.{take, string_bytes}
-use Rattle.text_schedule.proofs.Written.{IsWritten}
-use Rattle.text_schedule.proofs.write.write_schedule.Given as goal
-
-abbrev pub invariant-loop-event : goal.invariant-loop-event
-invariant-loop-event l = IsWritten (take l.event-index l.events) (string_bytes l.text)

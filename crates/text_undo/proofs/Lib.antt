@@ -1,3 +1,0 @@
-pub mod UndoLines
-pub mod NamesLines
-pub mod UndoLists

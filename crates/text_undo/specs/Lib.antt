@@ -1,3 +1,0 @@
-pub mod Versions
-pub mod UndoText
-pub mod UndoNames

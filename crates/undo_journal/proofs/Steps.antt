@@ -1,1 +1,0 @@
--- The step of a task that asks for something is there.
