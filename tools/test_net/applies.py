@@ -320,7 +320,7 @@ class Deaf(Link):
 
 def forgotten(program, folder, board):
     """The controller is restarted while the last part of a string has no answer, and knows nothing of the string then: it refuses the part that is sent again. The
-    record of the step that was in doubt is named, and the status is 10."""
+    record of the step that was in doubt is named, with its attribute's name, and the status is 10."""
     text = Step('kind = "bios-attribute"\nhandle = 1\ntext = "' + 300 * "y" + '"\n', (SMBUS, (0x03, 0x08, bytes([0, 0, 0, 0, 1, 1, 0]))))
     plan, file = servers.write(f"{folder}/plan.toml", text_of([ATTRIBUTE, text], 1)), f"{folder}/plan.undo"
     board = servers.write(f"{folder}/board.toml", servers.read(board).replace("most = 200", "most = 1024"))
@@ -333,7 +333,7 @@ def forgotten(program, folder, board):
         link.speaks = True
         said = (
             f"taken back: 1 step; {file}.done has the requests that did it, and {file} is empty\n"
-            "attribute 1 isn't as before: somebody else set it, or the controller lost it\n"
+            'attribute 1 ("Asset") isn\'t as before: somebody else set it, or the controller lost it\n'
         )
         expect("revert", revert(program, ports, file), (10, "", said))
         expect("the first record", asker.get(*ATTRIBUTE.get).hex(), before[ATTRIBUTE.get])

@@ -375,7 +375,7 @@ def begins_anew(program, folder, board, is_carried_out):
             expect("the threshold", critical_now(asker), 0x5A)
             link.speaks = True
             status, out, err = call_named(program, err, 1000)
-            named = "attribute 1 isn't as before: somebody else set it, or the controller lost it\n" if is_carried_out else ""
+            named = 'attribute 1 ("Asset") isn\'t as before: somebody else set it, or the controller lost it\n' if is_carried_out else ""
             expect("revert", (status, out, err), (10 if is_carried_out else 0, "", taken_back(file, 1)[2] + named))
             expect("the records", (critical_now(asker), read_record(asker, text.get)), (0x5F, shown))
             again.ended()

@@ -6,7 +6,7 @@ from . import servers
 from .applies import LISTED, LONG_WAIT, SERVED_TURNS, Meddler, Silence, apply, revert
 from .at_once import FEW_FILES, waiting
 from .controllers import GET_THRESHOLDS, SET_THRESHOLDS, SOME_WAIT, TWELVE, WATCHDOG, Mute, Silent
-from .greetings import ATTRIBUTE, NOBODY, POLICY, WINDOWS, critical, set_critical
+from .greetings import ATTRIBUTE, NOBODY, ON_IPMB, POLICY, WINDOWS, critical, set_critical
 from .plans import IPMB, text_of
 from .previews import sensor_record
 from .servers import Asker, Server, call, expect
@@ -14,6 +14,10 @@ from .servers import Asker, Server, call, expect
 DID_POLICY, DID_CRITICAL = "power restore policy: previous -> always on", "sensor 5 upper critical: 95 (5Fh) -> 90 (5Ah)"
 DID_HYSTERESIS = "sensor 5 positive-going hysteresis: 2 (02h) -> 4 (04h); negative-going hysteresis: 2 (02h) -> 4 (04h)"
 THRESHOLDS = "sensor 5 thresholds"
+# The commands that reserve the repository of sensor data records, and get a part of one.
+RESERVE, GET_RECORD = 0x22, 0x23
+# A record that names sensor 5, and one of another controller's sensor.
+CPU_1, OTHER = sensor_record(1, 0x01, 0x20, 5, 0xCA, b"CPU 1 temp"), sensor_record(1, 0x01, 0x82, 5, 0xC5, b"other")
 # The option by which a plan is looked at first, and each step of these plans is kept.
 LOOKS = "--only-changes"
 
@@ -54,6 +58,24 @@ def record(name, why):
     return {"record": name, "why": why}
 
 
+def named_board(folder, board, records):
+    """Returns a board file with these sensor data records."""
+    return servers.write(f"{folder}/named.toml", servers.read(board).replace('sdr = ["010051C00100"]', "sdr = " + json.dumps(records)))
+
+
+class Watch(Meddler):
+    """Such a link that keeps the number and the command of each request."""
+
+    def __init__(self, server, sets):
+        super().__init__(server, sets)
+        self.asked = []
+
+    def hear(self, seen):
+        if seen.to_server:
+            self.asked.append((seen.data[4] >> 2, seen.data[5]))
+        super().hear(seen)
+
+
 def of_ends(program, folder, board):
     """A plan is done, halts at a Set, a Get or a value, finds FILE occupied, and puts it aside; and all is taken back, or nothing is there to take back."""
     with Server(program, board, SERVED_TURNS) as server:
@@ -86,8 +108,7 @@ def of_ends(program, folder, board):
 
 def of_names(program, folder, board):
     """A plan halts behind a look at a sensor that a record of the board names: the object has that name, and so has the sentence. One that is done has none."""
-    records = [sensor_record(1, 0x01, 0x20, 5, 0xCA, b"CPU 1 temp")]
-    named = servers.write(f"{folder}/named.toml", servers.read(board).replace('sdr = ["010051C00100"]', "sdr = " + json.dumps(records)))
+    named = named_board(folder, board, [CPU_1])
     with Server(program, named, SERVED_TURNS) as server:
         ipmb = server.ports[IPMB]
         halted = Trial(program, folder, TWELVE, "halted")
@@ -104,6 +125,61 @@ def of_names(program, folder, board):
         done.apply("a plan that is done", ipmb, 0, LOOKS, outcome="done", stands=1, did=[DID_CRITICAL], has_next=True, wait=LONG_WAIT)
         done.revert("its revert", ipmb, 0, "undone", 1, stands=0, looked=True, wait=LONG_WAIT)
         expect("serve", server.ended()[1].split("\n")[1:], ["records same", ""])
+
+
+def expect_asked(link, names):
+    """Tests that a Set and a look went over the link behind the greeting, and then these commands, one after another by their numbers."""
+    asked = link.asked[ON_IPMB:]
+    expect("what is asked for", [command for number, command in asked], [SET_THRESHOLDS, GET_THRESHOLDS, *names])
+    expect("their numbers", [number for number, command in asked], [(asked[0][0] + place) % 64 for place in range(len(asked))])
+
+
+def of_names_behind(program, folder, board, records, name, reads):
+    """Somebody sets a record once it is taken back: the object has the name of its sensor, and so has the sentence, where a record of the board names it. It is
+    asked for behind the look, with the next numbers and no greeting between. Where each record is as before no name is asked for."""
+    board = named_board(folder, board, records)
+    with Server(program, board, SERVED_TURNS) as server, Asker(server.ports) as asker:
+        ipmb, trial = server.ports[IPMB], Trial(program, folder, [critical(0x5A)])
+        said = f' ("{name}")' if name else ""
+        sentences = (
+            f"taken back: 1 step; {trial.file}.done has the requests that did it, and {trial.file} is empty\n"
+            f"sensor 5{said} thresholds isn't as before: somebody else set it, or the controller lost it\n"
+        )
+        differs = without_none({"record": THRESHOLDS, "name": name, "why": "differs"})
+        names = [RESERVE] + [GET_RECORD] * reads
+        expect("apply", apply(program, [ipmb], trial.plan)[0], 0)
+        with Watch(ipmb, lambda: set_critical(asker, 0x57)) as link:
+            trial.revert("a revert", link.port, 10, "undone", 1, stands=0, looked=True, records=[differs], wait=LONG_WAIT)
+            expect_asked(link, names)
+        expect("apply", apply(program, [ipmb], trial.plan)[0], 0)
+        with Watch(ipmb, lambda: set_critical(asker, 0x5F)) as link:
+            expect("a revert", revert(program, [link.port], trial.file), (10, "", sentences))
+            expect_asked(link, names)
+        set_critical(asker, 0x5F)
+        expect("apply", apply(program, [ipmb], trial.plan)[0], 0)
+        with Watch(ipmb, lambda: None) as link:
+            trial.revert("a revert of all", link.port, 0, "undone", 1, stands=0, looked=True, wait=LONG_WAIT)
+            expect_asked(link, [])
+        expect("serve", server.ended()[1].split("\n")[1:], ["records same", ""])
+
+
+class Unreserved(Meddler):
+    """Such a link over which no answer comes to a reservation."""
+
+    def hear(self, seen):
+        if seen.to_server or seen.data[5:6] != bytes([RESERVE]):
+            super().hear(seen)
+
+
+def of_name_unanswered(program, folder, board):
+    """No answer comes where a name is asked for, once a record was found that isn't as before: it has no name, and nothing else is otherwise."""
+    board = named_board(folder, board, [CPU_1])
+    with Server(program, board, SERVED_TURNS) as server, Asker(server.ports) as asker:
+        ipmb, trial = server.ports[IPMB], Trial(program, folder, [critical(0x5A)])
+        expect("apply", apply(program, [ipmb], trial.plan)[0], 0)
+        with Unreserved(ipmb, lambda: set_critical(asker, 0x57)) as link:
+            trial.revert("a revert", link.port, 10, "undone", 1, stands=0, looked=True, records=[record(THRESHOLDS, "differs")])
+        server.ended()
 
 
 def of_silence(program, folder, board, command, stop, is_open, steps):
@@ -211,6 +287,9 @@ def tests(board):
     return [
         ("the objects of ends", of_ends, (board,)),
         ("the object of a step that a record of the board names", of_names, (board,)),
+        ("the object of a record that isn't as before and has a name", of_names_behind, (board, [CPU_1], "CPU 1 temp", 2)),
+        ("the object of a record that isn't as before and has none", of_names_behind, (board, [OTHER], None, 1)),
+        ("the object of a record that isn't as before, whose name has no answer", of_name_unanswered, (board,)),
         ("the objects of a Get without an answer", of_silence, (board, GET_THRESHOLDS, "get unanswered", "get", 1)),
         ("the objects of a Set without an answer", of_silence, (board, SET_THRESHOLDS, "set unanswered", "set", 2)),
         ("the objects of reverts", of_reverts, (board,)),

@@ -1,9 +1,11 @@
--- A looker with links of its own to a controller that was greeted, or why there is none.
+-- A looker with links of its own to a controller that was greeted, or why there is none; or over links that are there.
 use Rattle.std.specs.Prelude.{◌≡◌, ℕ, Bool, true, false, Option, Some, None}
 use Rattle.wire_links.specs.Counted.{none_counted}
 use Rattle.undo_plans.specs.declared.undo_list.NextNumbers.{NextNumbers}
 use Rattle.model_lab.specs.Meaning.{lab_names}
+use Rattle.undo_look.specs.declared.looker.Looker.{Looker}
 use Rattle.undo_look.specs.Looks.{opened_at, state_of}
+use Rattle.app_run.specs.declared.links.BusLinks.{BusLinks}
 use Rattle.app_run.specs.declared.greeting.Greetings.{Greetings}
 use Rattle.app_run.specs.Greeted.{AreGreeted}
 use Rattle.app_look.specs.declared.session.OpenFault.{OpenFault}
@@ -35,6 +37,10 @@ pub record IsOpened (way : Way) (ipmb smbus : Bool) (session : Session) : Type 0
   pub on_ipmb : session.ipmb.counts ≡ none_counted
   pub on_smbus : session.smbus.counts ≡ none_counted
   pub again : session.again ≡ way.again
+
+-- the session of a looker and links that are there
+abbrev pub session_over : Looker → BusLinks → (again : ℕ) → Session
+session_over looker ends again = record { looker = looker; ipmb = ends.ipmb; smbus = ends.smbus; again = again }
 
 -- why there is no looker: where it is for a greeting, that one wasn't answered
 abbrev pub IsUnopened : Way → (ipmb smbus : Bool) → OpenFault → Type 0

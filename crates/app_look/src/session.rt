@@ -4,7 +4,7 @@ ghost use Rattle.model_lab.specs.Meaning.{lab_names as the_names};
 ghost use Rattle.undo_look.specs.Looks.{IsSeen, opened_at, state_of};
 ghost use Rattle.app_run.specs.Greeted.{AreGreeted};
 ghost use Rattle.app_look.specs.Opened.{IsOpened, IsUnopened, first_numbers, greetings_of};
-ghost use Rattle.app_look.specs.Opened.{most_turns, number_on};
+ghost use Rattle.app_look.specs.Opened.{most_turns, number_on, session_over};
 ghost use Rattle.app_look.specs.Looking.{AsksFor, CallsOnce, GoesOn, LooksAt, LooksTo, begins};
 ghost use Rattle.app_look.specs.Looking.{sends_again};
 
@@ -135,6 +135,20 @@ impl Session {
             smbus,
             again: way.again,
         })
+    }
+
+    /// The session of a looker and links that are there: nothing is sent before its requests, and no greeting is. Its requests are heeded again so
+    /// often.
+    pub fn over(looker: Looker, ends: BusLinks, again: u32) -> Session
+        ensures { result ≡ session_over looker ends again }
+    {
+        let BusLinks { ipmb, smbus } = ends;
+        Session {
+            looker,
+            ipmb,
+            smbus,
+            again,
+        }
     }
 
     /// Begins a look at this, and drives it.

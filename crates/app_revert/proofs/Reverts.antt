@@ -50,14 +50,14 @@ module _ {Files Refused : Type 0} (files : written.Ghosts Files) (beside : UndoF
 
   -- ---- the whole way
 
-  -- the looks behind it told something, or memory for them was refused
+  -- the looks behind it told something, and names were read; or memory for the looks was refused
   pub come_by : (agains : ℕ) (standing : Standing) (before after : Manager) (outcome : Outcome) (came : Result Reverted Refused) (old new : Files)
       → RevertEnd files beside {Refused = Refused} agains standing before after (Ok outcome) old new → IfOk came (IsReverted agains after (doubts before) outcome)
       → RevertCome files beside agains standing before came old new
   come_by agains standing before after outcome (Ok reverted) old new ends is = (
     subst (λ (m : Manager). RevertEnd files beside {Refused = Refused} agains standing before m (Ok reverted.outcome) old new) (sym is.0)
         (subst (λ (o : Outcome). RevertEnd files beside {Refused = Refused} agains standing before after (Ok o) old new) (sym is.1) ends),
-    subst (λ (m : Manager). Looks agains m (doubts before) reverted.outcome reverted.looked) (sym is.0)
-        (subst (λ (o : Outcome). Looks agains after (doubts before) o reverted.looked) (sym is.1) is.2),
+    subst (λ (m : Manager). Looks agains m (doubts before) reverted.outcome reverted.looked reverted.names) (sym is.0)
+        (subst (λ (o : Outcome). Looks agains after (doubts before) o reverted.looked reverted.names) (sym is.1) is.2),
   )
   come_by agains standing before after outcome (Err refused) old new ends is = inr (after, Ok outcome, ends)

@@ -1,3 +1,4 @@
 pub mod Statuses
 pub mod Revert
 pub mod Looks
+pub mod Names

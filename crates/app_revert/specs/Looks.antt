@@ -1,4 +1,5 @@
--- The look behind a revert: each record is asked for by its Get, and what that shows is compared with what the list's request sets.
+-- The look behind a revert: each record is asked for by its Get, and what that shows is compared with what the list's request sets. Names are read
+-- behind that.
 use Rattle.std.specs.Prelude.{◌≡◌, ◌≢◌, ◌⊎◌, ◌++◌, ◌&&◌, ◌==◌, ℕ, suc, Bool, true, false, Contains, List, [], ◌∷◌, Option, Some, None}
 use Rattle.std.specs.Option.{option_to_list}
 use Rattle.wire_links.specs.Counted.{none_counted}
@@ -24,11 +25,14 @@ use Rattle.undo_look.specs.Looks.{StepResult, again_at, begin_at, opened_at, sta
 use Rattle.app_look.specs.declared.look_driver.LookEnd.{LookEnd}
 use Rattle.app_look.specs.declared.look_driver.LookEnd.TheVariants.{Silent}
 use Rattle.app_look.specs.Driven as driven
+use Rattle.report_words.specs.declared.table_names.Names.{Names}
+use Rattle.report_words.specs.TableNames.{KnowsNone}
 use Rattle.app_run.specs.Driven.{undo_retries}
 use Rattle.app_revert.specs.declared.looking.Eye.{Eye}
 use Rattle.app_revert.specs.declared.looking.Looked.{Looked}
 use Rattle.app_revert.specs.declared.looking.Sight.{Sight}
 use Rattle.app_revert.specs.declared.looking.Sight.TheVariants.{AsBefore, Differs, Unseen}
+use Rattle.app_revert.specs.Names.{ReadsBehind}
 use Rattle.app_apply.specs.Kept.{most_turns}
 
 -- ---- what is shown
@@ -152,20 +156,22 @@ pub record IsNewEye (list : UndoList) (eye : Eye) : Type 0 where
   pub ipmb : eye.ends.ipmb.counts ≡ none_counted
   pub smbus : eye.ends.smbus.counts ≡ none_counted
 
--- each record of the list's requests, and behind them of that of the step in doubt, was looked at, and this was told
-pub record LooksOver (agains : ℕ) (list : UndoList) (doubt : List Asked) (told : Looked) : Type 0 where
+-- each record of the list's requests, and behind them of that of the step in doubt, was looked at, and this was told; and behind that so the names
+-- were read
+pub record LooksOver (agains : ℕ) (list : UndoList) (doubt : List Asked) (told : Looked) (names : Names) : Type 0 where
   pub before : Eye
   pub after : Eye
   pub none : Looked
   pub new : IsNewEye list before
   pub nothing : TellsNothing none
   pub looks : LooksEach agains [] (list.requests.members ++ doubt) before none after told
+  pub reads : ReadsBehind agains told after names
 
 -- the request that takes back the step whose Set is open
 abbrev pub doubts : Manager → List Asked
 doubts manager = option_to_list ((kept_by manager).waiting)
 
--- Each record was looked at, by requests that go on with the list's next numbers; or no link could be had, and that is told. No greeting comes
--- before: a controller that is greeted carries out late copies of what it answered.
-abbrev pub LooksBehind : (agains : ℕ) → UndoList → (doubt : List Asked) → Looked → Type 0
-LooksBehind agains list doubt told = LooksOver agains list doubt told ⊎ TellsNoAnswer told
+-- Each record was looked at, by requests that go on with the list's next numbers, and behind that so the names were read; or no link could be had,
+-- and that is told. No greeting comes before: a controller that is greeted carries out late copies of what it answered.
+abbrev pub LooksBehind : (agains : ℕ) → UndoList → (doubt : List Asked) → Looked → Names → Type 0
+LooksBehind agains list doubt told names = LooksOver agains list doubt told names ⊎ (TellsNoAnswer told × KnowsNone names)

@@ -43,6 +43,8 @@ use Rattle.app_run.specs.Ends.{PrintsNothing}
 use Rattle.app_run.specs.JournalUndo.{IsJournal}
 use Rattle.app_run.specs.Greeted.{AreGreeted, greetings_before_undo}
 use Rattle.app_run.specs.Reverting.{settles_none}
+use Rattle.report_words.specs.declared.table_names.Names.{Names}
+use Rattle.report_words.specs.TableNames.{KnowsNone}
 use Rattle.app_apply.specs.declared.outcome.Outcome.{Outcome}
 use Rattle.app_apply.specs.declared.outcome.Outcome.TheVariants.{Empty, Unmade, Unkept, Ungreeted, NoLink, Ended}
 use Rattle.app_apply.specs.declared.kept_calls.Reach.{Reach}
@@ -204,23 +206,25 @@ module _ {Files : Type 0} (files : written.Ghosts Files) (beside : UndoFiles) wh
       × (((is_nothing standing ≡ true) × (came ≡ Ok Empty) × (after ≡ before) × (new ≡ old))
       ⊎ ((is_nothing standing ≡ false) × RevertsMade agains before after came old new)))
 
--- Once all is taken back, each record of the manager's list was looked at, and that of the step that was in doubt. Else none was.
-abbrev pub Looks : (agains : ℕ) → (after : Manager) → (doubt : List Asked) → Outcome → Looked → Type 0
-Looks agains after doubt (Ended Undone (Ok done)) looked = (list : UndoList) × HasList after list × LooksBehind agains list doubt looked
-Looks agains after doubt came looked = TellsNothing looked
+-- Once all is taken back, each record of the manager's list was looked at, and that of the step that was in doubt, and behind that so the names were
+-- read. Else none was looked at, and no name is known.
+abbrev pub Looks : (agains : ℕ) → (after : Manager) → (doubt : List Asked) → Outcome → Looked → Names → Type 0
+Looks agains after doubt (Ended Undone (Ok done)) looked names =
+    (list : UndoList) × HasList after list × LooksBehind agains list doubt looked names
+Looks agains after doubt came looked names = TellsNothing looked × KnowsNone names
 
--- this came of a manager, and so the looks behind it
+-- this came of a manager, and so the looks behind it, and the names behind these
 abbrev pub IsReverted : (agains : ℕ) → (after : Manager) → (doubt : List Asked) → Outcome → Reverted → Type 0
 IsReverted agains after doubt outcome reverted =
-    (reverted.manager ≡ after) × (reverted.outcome ≡ outcome) × Looks agains after doubt outcome reverted.looked
+    (reverted.manager ≡ after) × (reverted.outcome ≡ outcome) × Looks agains after doubt outcome reverted.looked reverted.names
 
 module _ {Files Refused : Type 0} (files : written.Ghosts Files) (beside : UndoFiles) where
-  -- So a manager takes back what it did, of which FILE has this standing, and behind that each record is looked at. Or memory is refused: before,
-  -- on the way, or for a look.
+  -- So a manager takes back what it did, of which FILE has this standing; behind that each record is looked at, and behind these looks names are
+  -- read. Or memory is refused: before, on the way, or for a look.
   abbrev pub RevertCome : (agains : ℕ) → Standing → (before : Manager) → Result Reverted Refused → (old new : Files) → Type 0
   RevertCome agains standing before (Ok reverted) old new =
       RevertEnd files beside {Refused = Refused} agains standing before reverted.manager (Ok reverted.outcome) old new
-      × Looks agains reverted.manager (doubts before) reverted.outcome reverted.looked
+      × Looks agains reverted.manager (doubts before) reverted.outcome reverted.looked reverted.names
   RevertCome agains standing before (Err refused) old new =
       (new ≡ old)
       ⊎ ((after : Manager) × (came : Result Outcome Refused) × RevertEnd files beside {Refused = Refused} agains standing before after came old new)

@@ -10,6 +10,7 @@ ghost use Rattle.app_revert.specs.Looks.{LooksEach, LooksOnce, LooksOnceAt, Look
 ghost use Rattle.app_revert.specs.Looks.{ShowsSo, Tells, TellsNoAnswer, TellsNothing, begun_at, doubts, goes_on_at};
 ghost use Rattle.app_revert.specs.Looks.{leaves_alone, selects_none};
 
+use crate::naming::names_behind;
 use app_apply::{MOST_TURNS, Reach};
 use app_look::{LookEnd, drive_again, drive_look};
 use app_run::{BusLinks, open_ends};
@@ -17,6 +18,7 @@ use model_lab::lab_names;
 use record_base::{EventChange, EventMasks, Key, Op, RecordKind, SetEventEnable};
 use record_kinds::Limits;
 use record_words::undone_op;
+use report_words::Names;
 use std::alloc::{AllocError, Global};
 use std::net::Net;
 use two_wire::Retries;
@@ -353,23 +355,26 @@ fn new_eye(alloc: Global, list: &UndoList, ends: BusLinks) -> Result<Eye, AllocE
     Ok(Eye { looker, ends })
 }
 
-/// Looks over these links at the record of each request that took back, and at that of the step that was in doubt.
+/// Looks over these links at the record of each request that took back, and at that of the step that was in doubt. Behind that it reads the names of
+/// those that aren't as before.
 fn look_over(
     alloc: Global,
     list: &UndoList,
     doubt: &Requests,
     ends: BusLinks,
     agains: u32,
-) -> Result<Looked, AllocError>
+) -> Result<(Looked, Names), AllocError>
     requires ipmb { ends.ipmb.counts ≡ none_counted }
     requires smbus { ends.smbus.counts ≡ none_counted }
     requires doubt { length doubt.now.members ≤ 1 }
-    ensures { IfOk result (LooksOver agains list.now doubt.now.members) }
+    ensures { IfOk result (λ told.
+        LooksOver agains list.now doubt.now.members told.0 told.1) }
 {
     let mut eye = new_eye(alloc, list, ends)?;
     let mut looked = Looked::none(alloc);
     look_all(&mut eye, &list.requests, doubt, agains, &mut looked)?;
-    Ok(looked)
+    let names = names_behind(alloc, eye, agains, &looked);
+    Ok((looked, names))
 }
 
 /// The request that takes back the step that is in doubt, since its Set is open; or none.
@@ -383,21 +388,23 @@ pub(crate) fn doubt_of(alloc: Global, manager: &Manager) -> Result<Requests, All
     Ok(doubt)
 }
 
-/// Looks over links of its own at the record of each request that took back, and at that of the step that was in doubt. The Gets go on with the list's
-/// next numbers, and no greeting comes before them: a controller that is greeted forgets what it answered, and carries out a late copy of that.
+/// Looks over links of its own at the record of each request that took back, and at that of the step that was in doubt, and reads the names of those
+/// that aren't as before. The Gets go on with the list's next numbers, the requests for names go on behind them, and no greeting comes before either:
+/// a controller that is greeted forgets what it answered, and carries out a late copy of that.
 pub(crate) fn look_behind<R: Net>(
     rt: &R,
     alloc: Global,
     list: &UndoList,
     doubt: &Requests,
     reach: &Reach,
-) -> Result<Looked, AllocError>
+) -> Result<(Looked, Names), AllocError>
     requires { length doubt.now.members ≤ 1 }
-    ensures { IfOk result (LooksBehind reach.now.again list.now doubt.now.members) }
+    ensures { IfOk result (λ told.
+        LooksBehind reach.now.again list.now doubt.now.members told.0 told.1) }
 {
     let ends = open_ends(rt, reach.ipmb_port, reach.smbus_or_none(), reach.wait_ms);
     match ends {
         Some(ends) => look_over(alloc, list, doubt, ends, reach.again),
-        None => Ok(Looked::unanswered(alloc)),
+        None => Ok((Looked::unanswered(alloc), Names::new(alloc))),
     }
 }

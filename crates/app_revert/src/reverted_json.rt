@@ -1,12 +1,12 @@
 //! What `bmcnet revert --json` says at its end: what is so, which records aren't as before, and what to call next, as one object in a line.
-use crate::looking::{Looked, Sight, Sighting};
+use crate::looking::{Sight, Sighting};
 use crate::reverted_words::bus_of_request;
 use crate::reverting::{RevertWords, Reverted};
-use app_apply::objects::object_line;
+use app_apply::objects::{name_of, object_line};
 use app_apply::sentences::push_revert;
 use app_apply::{Outcome, Reach};
 use record_words::{RecordName, undo_in_words};
-use report_words::code_row;
+use report_words::{Names, code_row};
 use serde::Serialize;
 use std::alloc::{AllocError, Global};
 use two_wire::Code;
@@ -41,6 +41,9 @@ struct OpenObject {
 #[derive(Drop, Serialize)]
 struct RecordObject {
     record: String,
+    /// The name of its sensor or attribute, where that is known.
+    #[serde(skip_serializing_if = "Option::is_none")]
+    name: Option<String>,
     /// What the look at it showed.
     why: &'static str,
 }
@@ -192,18 +195,23 @@ fn sight_word(sight: Sight) -> &'static str {
 }
 
 /// The object of a record that was looked at.
-fn record_of(alloc: Global, sighting: &Sighting) -> Result<RecordObject, AllocError> {
-    let name = RecordName(sighting.key);
-    let record = format!(in alloc; "{name}")?;
+fn record_of(
+    alloc: Global,
+    sighting: &Sighting,
+    names: &Names,
+) -> Result<RecordObject, AllocError> {
+    let key = &sighting.key;
+    let record = format!(in alloc; "{}", RecordName(*key))?;
+    let name = name_of(alloc, names, key)?;
     let why = sight_word(sighting.sight);
-    Ok(RecordObject { record, why })
+    Ok(RecordObject { record, name, why })
 }
 
 /// Those of the records that the looks named.
-fn records_of(alloc: Global, looked: &Looked) -> Result<Vec<RecordObject>, AllocError> {
+fn records_of(alloc: Global, reverted: &Reverted) -> Result<Vec<RecordObject>, AllocError> {
     let mut records = Vec::new(alloc);
-    for sighting in &looked.sightings {
-        records.push(record_of(alloc, sighting)?)?;
+    for sighting in &reverted.looked.sightings {
+        records.push(record_of(alloc, sighting, &reverted.names)?)?;
     }
     Ok(records)
 }
@@ -241,7 +249,7 @@ fn object_of<'a>(
     let (manager, outcome) = (&reverted.manager, &reverted.outcome);
     let file = words.file.as_str();
     let refused = refused_of(alloc, manager, outcome)?;
-    let records = records_of(alloc, &reverted.looked)?;
+    let records = records_of(alloc, reverted)?;
     let next = next_call(alloc, outcome, file, &words.reach)?;
     let (word, bus) = (outcome_word(outcome), bus_word(outcome));
     let steps = Some(manager.undo_list().requests.len());

@@ -1,12 +1,13 @@
 //! What `bmcnet revert` says at its end: what is so, and what to call next.
-use crate::looking::{Looked, Sight, Sighting};
+use crate::looking::{Sight, Sighting};
 use crate::reading::Unfit;
 use crate::reverting::{RevertWords, Reverted};
 use app_apply::sentences::{
     push_code, push_revert, push_standing, push_unanswered, push_unsettled,
 };
 use app_apply::{Outcome, Reach};
-use record_words::{RecordName, undo_in_words};
+use record_words::{RecordName, push_named, undo_in_words};
+use report_words::Names;
 use std::alloc::{AllocError, Global};
 use two_wire::{Bus, Code};
 use undo_core::{Manager, Phase};
@@ -122,26 +123,37 @@ fn push_unkept_back(
     text.push_str("\n")
 }
 
-/// Adds a line for a record that isn't as before, or that couldn't be looked at.
-fn push_sighting(text: &mut String, sighting: &Sighting) -> Result<(), AllocError> {
-    let name = RecordName(sighting.key);
-    match sighting.sight {
-        Sight::AsBefore => writeln!(text, "{name} is as before"),
-        Sight::Differs => writeln!(
-            text,
-            "{name} isn't as before: somebody else set it, or the controller lost it"
-        ),
-        Sight::Unseen => writeln!(text, "{name} couldn't be looked at: no answer"),
+/// What a look showed.
+fn sight_words(sight: Sight) -> &'static str {
+    match sight {
+        Sight::AsBefore => "is as before",
+        Sight::Differs => "isn't as before: somebody else set it, or the controller lost it",
+        Sight::Unseen => "couldn't be looked at: no answer",
     }
 }
 
+/// Adds a line for a record that isn't as before, or that couldn't be looked at, with the name of its sensor or attribute where that is known.
+fn push_sighting(
+    alloc: Global,
+    text: &mut String,
+    sighting: &Sighting,
+    names: &Names,
+) -> Result<(), AllocError> {
+    let key = &sighting.key;
+    let record = RecordName(*key);
+    let sight = sight_words(sighting.sight);
+    let said = format!(in alloc; "{record} {sight}\n")?;
+    push_named(alloc, text, key, names.of(key), said.as_str())
+}
+
 /// Adds what the looks told.
-fn push_looked(text: &mut String, looked: &Looked) -> Result<(), AllocError> {
+fn push_looked(alloc: Global, text: &mut String, reverted: &Reverted) -> Result<(), AllocError> {
+    let looked = &reverted.looked;
     if looked.unseen && looked.sightings.len() == 0 {
         return text.push_str("no record could be looked at: no answer\n");
     }
     for sighting in &looked.sightings {
-        push_sighting(text, sighting)?;
+        push_sighting(alloc, text, sighting, &reverted.names)?;
     }
     Ok(())
 }
@@ -161,7 +173,7 @@ pub fn revert_text(
         Outcome::Ended(phase, Err(_)) => push_unkept_back(&mut text, phase, file, reach)?,
         outcome => push_unreverted(&mut text, outcome, file, reach)?,
     }
-    push_looked(&mut text, &reverted.looked)?;
+    push_looked(alloc, &mut text, reverted)?;
     Ok(text)
 }
 

@@ -27,6 +27,7 @@ use app_apply::{Outcome, Reach};
 use app_base::{Console, ReportFault, Status, Stream, TextFiles, end_run, text_of};
 use app_journal::{JournalTexts, Standing, UndoFiles, WriteFault, WritesFiles, standing_in};
 use app_run::{Progress, requests_use};
+use report_words::Names;
 use std::alloc::{AllocError, Global};
 use std::io;
 use std::net::Net;
@@ -52,6 +53,8 @@ pub struct Reverted {
     pub outcome: Outcome,
     /// What the looks behind it told. Where not all was taken back, there were none.
     pub looked: Looked,
+    /// The names of the sensors and attributes whose records aren't as before, as far as they could be read.
+    pub names: Names,
 }
 
 impl Reverted {
@@ -174,7 +177,7 @@ fn lacks_port(manager: &Manager, reach: &Reach) -> bool
     needs_smbus(manager)
 }
 
-/// Looks at each record, where all was taken back.
+/// Looks at each record, where all was taken back, and reads the names of those that aren't as before.
 fn look_after<R: Net>(
     rt: &R,
     alloc: Global,
@@ -182,19 +185,20 @@ fn look_after<R: Net>(
     outcome: &Outcome,
     doubt: &Requests,
     reach: &Reach,
-) -> Result<Looked, AllocError>
+) -> Result<(Looked, Names), AllocError>
     requires { length doubt.now.members ≤ 1 }
-    ensures { IfOk result (Looks reach.now.again manager.now doubt.now.members outcome.now) }
+    ensures { IfOk result (λ told.
+        Looks reach.now.again manager.now doubt.now.members outcome.now told.0 told.1) }
 {
     match outcome {
         Outcome::Ended(Phase::Undone, Ok(())) => {
             look_behind(rt, alloc, manager.undo_list(), doubt, reach)
         }
-        _ => Ok(Looked::none(alloc)),
+        _ => Ok((Looked::none(alloc), Names::new(alloc))),
     }
 }
 
-/// What came of a manager, and of the looks behind that.
+/// What came of a manager, of the looks behind that, and of the names behind these.
 fn reverted_as<R: Net>(
     rt: &R,
     alloc: Global,
@@ -207,10 +211,11 @@ fn reverted_as<R: Net>(
     ensures { IfOk result (IsReverted reach.now.again manager doubt.now.members outcome) }
 {
     match look_after(rt, alloc, &manager, &outcome, doubt, reach) {
-        Ok(looked) => Ok(Reverted {
+        Ok((looked, names)) => Ok(Reverted {
             manager,
             outcome,
             looked,
+            names,
         }),
         Err(why) => {
             drop(manager);
@@ -219,7 +224,8 @@ fn reverted_as<R: Net>(
     }
 }
 
-/// Takes back what a manager did, of which FILE has this standing, and looks behind that at each record, and at that of the step in doubt.
+/// Takes back what a manager did, of which FILE has this standing, and looks behind that at each record, and at that of the step in doubt. Behind the
+/// looks it reads the names of those that aren't as before.
 fn revert_doubted<F: WritesFiles, P: io::Write, R: Net>(
     rt: &R,
     alloc: Global,

@@ -4,6 +4,7 @@ use app_journal::{WriteFault, revive_text};
 use app_revert::{Looked, RevertWords, Reverted, Sight, Sighting, revert_json, revert_text};
 use app_run::Unanswered;
 use record_base::Key;
+use report_words::{Names, id_string};
 use std::alloc::Global;
 use std::process::Abort;
 use two_wire::Bus;
@@ -64,6 +65,17 @@ fn one_look(rt: &impl Abort, alloc: Global, sight: Sight) -> Looked {
     }
 }
 
+/// The id string of sensor 5, its type and length first: eight bytes of ASCII and Latin 1 are `CPU "0"`, and B0h is a degree sign.
+const ID_STRING: [u8; 9] = [0xC8, b'C', b'P', b'U', b' ', b'"', b'0', b'"', 0xB0];
+
+/// The name of sensor 5 is known.
+fn one_name(rt: &impl Abort, alloc: Global) -> Names {
+    let keys = [Key::Thresholds(5)];
+    let mut names = Names::wanted(alloc, &keys).expect(rt, "memory");
+    names.name_sensor(5, id_string(&ID_STRING));
+    names
+}
+
 /// This is said of a manager of which that came.
 fn expect_said(rt: &impl Abort, alloc: Global, reverted: Reverted, sentence: &str, object: &str) {
     let words = words_of(rt, alloc);
@@ -89,6 +101,7 @@ fn expect_ended(
         manager,
         outcome,
         looked,
+        names: Names::new(alloc),
     };
     expect_said(rt, alloc, reverted, sentence, object);
 }
@@ -99,6 +112,7 @@ fn expect_uncalled(rt: &impl Abort, alloc: Global, outcome: Outcome, sentence: &
         manager: manager_of(rt, alloc, "stage done 0 0\ngo\ncounts 4 0\n"),
         outcome,
         looked: no_looks(alloc),
+        names: Names::new(alloc),
     };
     expect_said(rt, alloc, reverted, sentence, object);
 }
@@ -116,6 +130,30 @@ fn a_record_that_differs_behind_it_is_named(rt: HostRuntime) {
 sensor 5 thresholds isn't as before: somebody else set it, or the controller lost it
 ",
         "{\"outcome\":\"undone\",\"steps\":2,\"stands\":0,\"records\":[{\"record\":\"sensor 5 thresholds\",\"why\":\"differs\"}],\"looked\":true,\"file\":\"plan.undo\",\"kept\":true}\n",
+    );
+}
+
+/// A sentence is printable ASCII: a quote of a name and each other byte is `\x` and its two digits. In an object a quote is escaped, and a byte is the
+/// character of Latin 1.
+#[test]
+fn a_record_that_differs_has_the_name_of_its_sensor(rt: HostRuntime) {
+    let alloc = rt.alloc();
+    let manager = manager_of(&rt, alloc, "stage undone 0 0\ngo\ncounts 6 0\n");
+    let outcome = Outcome::Ended(manager.phase(), Ok(()));
+    let reverted = Reverted {
+        manager,
+        outcome,
+        looked: one_look(&rt, alloc, Sight::Differs),
+        names: one_name(&rt, alloc),
+    };
+    expect_said(
+        &rt,
+        alloc,
+        reverted,
+        "taken back: 2 steps; plan.undo.done has the requests that did it, and plan.undo is empty
+sensor 5 (\"CPU \\x220\\x22\\xB0\") thresholds isn't as before: somebody else set it, or the controller lost it
+",
+        "{\"outcome\":\"undone\",\"steps\":2,\"stands\":0,\"records\":[{\"record\":\"sensor 5 thresholds\",\"name\":\"CPU \\\"0\\\"\u{B0}\",\"why\":\"differs\"}],\"looked\":true,\"file\":\"plan.undo\",\"kept\":true}\n",
     );
 }
 

@@ -1,0 +1,27 @@
+-- The names behind the looks: those of the sensors and attributes whose records aren't as before.
+use Rattle.std.specs.Prelude.{◌≡◌, ◌⊎◌, ◌&&◌, ℕ, Bool, true, false, not, List, map}
+use Rattle.record_base.specs.declared.key.Key.{Key}
+use Rattle.report_words.specs.declared.table_names.Names.{Names}
+use Rattle.report_words.specs.TableNames.{KnowsNone}
+use Rattle.app_look.specs.declared.session.Session.{Session}
+use Rattle.app_look.specs.Asking.{AsksTables}
+use Rattle.app_look.specs.Opened.{session_over}
+use Rattle.app_revert.specs.declared.looking.Eye.{Eye}
+use Rattle.app_revert.specs.declared.looking.Looked.{Looked}
+
+-- names are read where a record isn't as before, and each look was answered
+abbrev pub asks_names : Looked → Bool
+asks_names looked = looked.differs && not looked.unseen
+
+-- the records that the looks named
+abbrev pub keys_of : Looked → List Key
+keys_of looked = map (λ sighting. sighting.key) looked.sightings.items
+
+-- parts of the controller's tables alone were asked for by this looker, over its links as they were: no greeting came before
+abbrev pub AsksOver : (agains : ℕ) → (eye : Eye) → Type 0
+AsksOver agains eye = (last : Session) × AsksTables (session_over eye.looker eye.ends agains) last
+
+-- Where names are read, that was done behind the looks, by their looker. Else nothing was asked for behind them, and no name is known.
+abbrev pub ReadsBehind : (agains : ℕ) → Looked → (eye : Eye) → Names → Type 0
+ReadsBehind agains looked eye names =
+    ((asks_names looked ≡ true) × AsksOver agains eye) ⊎ ((asks_names looked ≡ false) × KnowsNone names)
