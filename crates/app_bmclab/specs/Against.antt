@@ -5,6 +5,7 @@ use Rattle.record_base.specs.declared.op.Op.{Op}
 use Rattle.cfg_records.specs.declared.board_file.BoardFile.{BoardFile}
 use Rattle.undo_plans.specs.declared.plan.Plan.{Plan}
 use Rattle.bmc_board.specs.State.{opened}
+use Rattle.report_words.specs.BoardNames.{names_of}
 use Rattle.file_words.specs.Escapes.{escaped}
 use Rattle.text_board.specs.declared.fault.FileFault.{FileFault}
 use Rattle.text_board.specs.Holds.{ReadsText}
@@ -38,12 +39,12 @@ abbrev pub outcome_with : (is_told : Bool) → List Finding → Outcome
 outcome_with is_told findings = if list_all goes findings then (if is_told then Told else Fine) else Refused
 
 -- What comes of these steps of a plan's text on a board of this file, and what is said of them in a file of this name: behind all else a line for
--- each, of what it meets in its turn, the first on a fresh board.
+-- each, of what it meets in its turn, the first on a fresh board, with the names that the file gives.
 pub record PlanAgainst (file : BoardFile) (name text : List ℕ) (steps : List Op) (outcome : Outcome) (said : List ℕ) : Type 0 where
   pub findings : List Finding
   pub met : MeetsInTurn file steps (opened file) findings
   pub front : List ℕ
-  pub lines : said ≡ front ++ finding_lines name 0 steps findings
+  pub lines : said ≡ front ++ finding_lines (names_of file) name 0 steps findings
   pub comes : outcome ≡ outcome_with (tells is_told_plan text) findings
 
 -- what comes of a text, and what is said of it: it is no plan and is refused, or it is one

@@ -13,6 +13,7 @@ use bmc_lab::{Finding, push_findings, try_steps};
 use cfg_records::BoardFile;
 use file_faults::{Sheet, Source};
 use plan_file::{PlanFault, read_plan};
+use report_words::BoardNames;
 use std::alloc::{AllocError, Global};
 use std::io;
 use text_board::{FileFault, read_board};
@@ -70,7 +71,7 @@ fn outcome_of(is_told: bool, findings: &[Finding]) -> Outcome
     }
 }
 
-/// What is told of a plan that was read of this text: what it holds, its keys, and what its steps meet on the board.
+/// What is told of a plan that was read of this text: what it holds, its keys, and what its steps meet on the board, with the names that the board gives.
 fn tried(
     alloc: Global,
     board: BoardFile,
@@ -91,9 +92,10 @@ fn tried(
     )?;
     let is_told = told_plan(alloc, &mut sheet, source)?;
     tell_looks(alloc, &mut sheet, source, Some(TextForm::Plan))?;
+    let names = BoardNames::of(alloc, &board)?;
     let findings = try_steps(alloc, board, steps)?;
     let mut text = sheet.into_text();
-    push_findings(&mut text, source.name, steps, findings.as_slice())?;
+    push_findings(&mut text, &names, source.name, steps, findings.as_slice())?;
     Ok(Told {
         outcome: outcome_of(is_told, findings.as_slice()),
         text,

@@ -8,3 +8,4 @@ mod Parts
 mod Answering
 mod Turns
 mod FindingLines
+mod FindingNames

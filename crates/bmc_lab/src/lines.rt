@@ -3,13 +3,13 @@ ghost use Rattle.std.specs.Prelude.{◌≡◌, ◌<◌, ◌≤◌, ◌++◌, OnO
 ghost use Rattle.record_base.specs.declared.op.Op.{Op as AnyOp};
 ghost use Rattle.bmc_core.specs.Wires.{bus_of};
 ghost use Rattle.record_kinds.specs.Limits.{get_asked};
-ghost use Rattle.bmc_lab.specs.FindingWords.{finding_line, finding_lines, finding_words};
+ghost use Rattle.bmc_lab.specs.FindingWords.{finding_line, finding_lines, finding_told, finding_words};
 
 use crate::finding::Finding;
 use record_base::{Asked, Key, RecordKind};
 use record_kinds::Limits;
-use record_words::{RecordName, Way, op_in_words};
-use report_words::NamedCode;
+use record_words::{RecordName, Way, op_in_words, push_named};
+use report_words::{BoardNames, NamedCode};
 use std::alloc::AllocError;
 use two_wire::{Bus, Code};
 use undo_plans::Steps;
@@ -36,8 +36,8 @@ fn refusal(key: &Key, code: Code) -> NamedCode
     }
 }
 
-/// Adds what the step of this place meets, in words.
-fn push_finding(
+/// Adds what the step of this place meets, in words, by the number of its sensor or attribute.
+fn push_told(
     text: &mut String,
     steps: &Steps,
     place: usize,
@@ -45,7 +45,7 @@ fn push_finding(
 ) -> Result<(), AllocError>
     requires { place < length steps.now }
     ensures { (op : AnyOp) → slice_get steps.now place ≡ Some op → OnOk result
-        (string_bytes text.new ≡ string_bytes text.old ++ finding_words op finding.now) }
+        (string_bytes text.new ≡ string_bytes text.old ++ finding_told op finding.now) }
 {
     let _steps = steps.len();
     let op = steps.get(place).unwrap();
@@ -70,9 +70,32 @@ fn push_finding(
     }
 }
 
+/// Adds what the step of this place meets, with the name of its sensor or attribute.
+fn push_finding(
+    text: &mut String,
+    names: &BoardNames,
+    steps: &Steps,
+    place: usize,
+    finding: &Finding,
+) -> Result<(), AllocError>
+    requires { place < length steps.now }
+    ensures { (op : AnyOp) → slice_get steps.now place ≡ Some op → OnOk result
+        (string_bytes text.new
+        ≡ string_bytes text.old ++ finding_words names.now op finding.now) }
+{
+    let _steps = steps.len();
+    let alloc = *text.allocator();
+    let mut told = String::new(alloc);
+    push_told(&mut told, steps, place, finding)?;
+    let op = steps.get(place).unwrap();
+    let key = Limits::key(&op);
+    push_named(alloc, text, &key, names.name_of(&key), told.as_str())
+}
+
 /// Adds the line of the step of this place.
 fn push_line(
     text: &mut String,
+    names: &BoardNames,
     name: &str,
     steps: &Steps,
     place: usize,
@@ -81,26 +104,27 @@ fn push_line(
     requires { place < length steps.now }
     ensures { (op : AnyOp) → slice_get steps.now place ≡ Some op → OnOk result
         (string_bytes text.new
-        ≡ string_bytes text.old ++ finding_line name.now place op finding.now) }
+        ≡ string_bytes text.old ++ finding_line names.now name.now place op finding.now) }
 {
     write!(text, "{name}: step {place}: ")?;
-    push_finding(text, steps, place, finding)?;
+    push_finding(text, names, steps, place, finding)?;
     text.push_str("\n")
 }
 
-/// Adds a line for each step of the plan of this name: what it meets, of which there is one for each.
+/// Adds a line for each step of the plan of this name: what it meets on a board that gives these names, of which there is one for each.
 pub fn push_findings(
     text: &mut String,
+    names: &BoardNames,
     name: &str,
     steps: &Steps,
     findings: &[Finding],
 ) -> Result<(), AllocError>
     requires { length findings.now ≤ length steps.now }
-    ensures { OnOk result (string_bytes text.new
-        ≡ string_bytes text.old ++ finding_lines name.now 0 steps.now findings.now) }
+    ensures { OnOk result (string_bytes text.new ≡ string_bytes text.old
+        ++ finding_lines names.now name.now 0 steps.now findings.now) }
 {
     for (place, finding) in findings.iter().enumerate() {
-        push_line(text, name, steps, place, finding)?;
+        push_line(text, names, name, steps, place, finding)?;
     }
     Ok(())
 }

@@ -7,6 +7,7 @@ use cfg_records::BoardFile;
 use lab_run::Note;
 use record_base::{Key, RecordKind};
 use record_kinds::Limits;
+use report_words::BoardNames;
 use std::alloc::{AllocError, Global};
 use text_lines::Event;
 use undo_plans::{Plan, Steps};
@@ -20,6 +21,21 @@ fn keys_of(alloc: Global, steps: &Steps) -> Result<Vec<Key>, AllocError> {
         }
     }
     Ok(keys)
+}
+
+/// What the lines name of a board and of a plan: the records of the plan's steps, and the names of the board's sensors and attributes.
+#[derive(Drop)]
+struct Named {
+    keys: Vec<Key>,
+    names: BoardNames,
+}
+
+/// What the lines name of the board of this file and of a plan with these steps.
+fn named_of(alloc: Global, file: &BoardFile, steps: &Steps) -> Result<Named, AllocError> {
+    Ok(Named {
+        keys: keys_of(alloc, steps)?,
+        names: BoardNames::of(alloc, file)?,
+    })
 }
 
 /// What is told.
@@ -91,8 +107,8 @@ fn told(
     events: &[Event],
     schedule: &str,
 ) -> Result<String, AllocError> {
-    let keys = match keys_of(alloc, &plan.steps) {
-        Ok(keys) => keys,
+    let named = match named_of(alloc, &file, &plan.steps) {
+        Ok(named) => named,
         Err(error) => {
             drop(file);
             drop(plan);
@@ -102,7 +118,8 @@ fn told(
     let mut notes = Vec::new(alloc);
     let given = play_restarting(alloc, file, plan, events, places, &mut notes);
     let course = Course {
-        steps: keys.as_slice(),
+        steps: named.keys.as_slice(),
+        names: &named.names,
         schedule,
     };
     told_by(alloc, telling, &course, notes.as_slice(), given)

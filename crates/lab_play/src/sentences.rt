@@ -4,15 +4,16 @@ use crate::run::Stopped;
 use crate::schedule_lines::event_line;
 use model_undo::{Phase, Why};
 use record_base::Key;
-use record_words::RecordName;
-use report_words::{NamedCode, code_row, phase_row};
+use record_words::{RecordName, push_named};
+use report_words::{BoardNames, NamedCode, code_row, phase_row};
 use std::alloc::AllocError;
 use two_wire::Bus;
 
-/// What the lines name: the records of the plan's steps, and the lines of the schedule.
+/// What the lines name: the records of the plan's steps, with the names of the board's sensors and attributes, and the lines of the schedule.
 #[derive(Clone, Copy)]
 pub(crate) struct Course<'a> {
     pub steps: &'a [Key],
+    pub names: &'a BoardNames,
     pub schedule: &'a str,
 }
 
@@ -24,14 +25,22 @@ fn bus_of(key: Key) -> Bus {
     }
 }
 
+/// Adds a record, with the name of its sensor or attribute where the board gives one.
+fn push_record(text: &mut String, names: &BoardNames, key: &Key) -> Result<(), AllocError> {
+    let alloc = *text.allocator();
+    let record = format!(in alloc; "{}", RecordName(*key))?;
+    push_named(alloc, text, key, names.name_of(key), record.as_str())
+}
+
 /// Adds which step that is, counted from 1, and its record.
 fn push_step(text: &mut String, course: &Course<'_>, step: usize) -> Result<(), AllocError> {
     let all = course.steps.len();
     match course.steps.get(step) {
         Some(key) => {
             let place = step.saturating_add(1);
-            let name = RecordName(*key);
-            write!(text, "step {place} of {all} ({name})")
+            write!(text, "step {place} of {all} (")?;
+            push_record(text, course.names, key)?;
+            text.push_str(")")
         }
         None => write!(text, "the end of {all} steps"),
     }

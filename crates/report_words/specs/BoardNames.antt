@@ -1,5 +1,5 @@
--- The names that a board gives: its sensors in its sensor data records (IPMI 2.0), and its attributes each its own.
-use Rattle.std.specs.Prelude.{ℕ, ◌==◌, List, drop, find, map, Option, Some, None}
+-- The names that a board gives: its sensors in its sensor data records (IPMI 2.0), and its attributes each its own; and lines with them.
+use Rattle.std.specs.Prelude.{ℕ, ◌==◌, List, ◌++◌, length, drop, find, map, Option, Some, None, codes}
 use Rattle.std.specs.List.{filter_map}
 use Rattle.std.specs.Option.{option_map}
 use Rattle.record_base.specs.declared.attribute.Attribute.{Attribute}
@@ -7,6 +7,8 @@ use Rattle.record_base.specs.declared.key.Key.{Key}
 use Rattle.record_base.specs.declared.key.Key.TheVariants as key
 use Rattle.cfg_records.specs.declared.board_file.BoardFile.{BoardFile}
 use Rattle.report_words.specs.SensorNames.{id_string, sensor_head}
+use Rattle.record_words.specs.NameWords.{subject_words}
+use Rattle.record_words.specs.Quotes.{quoted}
 
 -- the sensors that records tell of, by their numbers, each with its name where the record has one; and the attributes by their handles
 pub record GivenNames : Type 0 where
@@ -42,3 +44,12 @@ name_of names (key.Hysteresis number) = of_sensor names number
 name_of names (key.EventEnable number) = of_sensor names number
 name_of names (key.BiosAttribute handle) = of_attribute names handle
 name_of names _ = None
+
+-- what is told of a record begins with its sensor or attribute, and where that has a name, the name stands behind it, in quotes and parentheses
+abbrev pub with_name : Key → Option (List ℕ) → (told : List ℕ) → List ℕ
+with_name key None told = told
+with_name key (Some name) told = subject_words key ++ (codes " (" ++ (quoted name ++ (codes ")" ++ drop (length (subject_words key)) told)))
+
+-- so it is told with the name that the board gives
+abbrev pub named_told : GivenNames → Key → (told : List ℕ) → List ℕ
+named_told names key told = with_name key (name_of names key) told

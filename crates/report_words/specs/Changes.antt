@@ -1,5 +1,5 @@
 -- The records of a board that have another value than they began with, in words.
-use Rattle.std.specs.Prelude.{◌≡◌, ℕ, ◌==◌, Bool, true, false, not, List, [], ◌++◌, length, drop, filter, find, map, Option, None, Some, codes}
+use Rattle.std.specs.Prelude.{◌≡◌, ℕ, ◌==◌, Bool, true, false, not, List, [], filter, find, map, Option, None, Some}
 use Rattle.std.specs.Option.{option_map_or, unwrap_or}
 use Rattle.record_base.specs.declared.key.Key.{Key}
 use Rattle.record_base.specs.declared.key.Key.TheVariants as key
@@ -8,12 +8,10 @@ use Rattle.cfg_records.specs.declared.board_file.BoardFile.{BoardFile}
 use Rattle.cfg_records.specs.Boards.{pairs_of}
 use Rattle.cfg_records.specs.Changed.{is_value}
 use Rattle.cfg_records.specs.Records.{Pair, Records}
-use Rattle.record_words.specs.NameWords.{subject_words}
 use Rattle.record_words.specs.OpWords.{change_words}
-use Rattle.record_words.specs.Quotes.{quoted}
 use Rattle.report_words.specs.declared.change_list.ChangeList.{ChangeList}
 use Rattle.report_words.specs.declared.first_records.FirstRecords.{FirstRecords}
-use Rattle.report_words.specs.BoardNames.{GivenNames, name_of, names_of}
+use Rattle.report_words.specs.BoardNames.{GivenNames, named_told, names_of}
 
 -- the handle of each attribute of a board, with its type
 abbrev pub types_of : BoardFile → List (ℕ × ℕ)
@@ -40,14 +38,9 @@ held value = unwrap_or value []
 abbrev pub change_told : List (ℕ × ℕ) → Records → Pair → List ℕ
 change_told types records pair = change_words pair.0 (type_at types pair.0) pair.1 (held (records pair.0))
 
--- what is told of a record begins with its sensor or attribute, and where that has a name, the name stands behind it, in quotes and parentheses
-abbrev pub with_name : Key → Option (List ℕ) → (told : List ℕ) → List ℕ
-with_name key None told = told
-with_name key (Some name) told = subject_words key ++ (codes " (" ++ (quoted name ++ (codes ")" ++ drop (length (subject_words key)) told)))
-
 -- the line of a record
 abbrev pub change_line : List (ℕ × ℕ) → GivenNames → Records → Pair → List ℕ
-change_line types names records pair = with_name pair.0 (name_of names pair.0) (change_told types records pair)
+change_line types names records pair = named_told names pair.0 (change_told types records pair)
 
 -- the records of a list that have another value in these, in its order
 abbrev pub lines_over : List (ℕ × ℕ) → GivenNames → Records → List Pair → List (List ℕ)

@@ -13,7 +13,7 @@ use std::marker::Model;
 
 /// The names of a board's sensors and attributes.
 #[derive(Drop)]
-pub(crate) struct BoardNames {
+pub struct BoardNames {
     /// Of each sensor data record of a sensor the sensor's number, and its name where the record has one.
     sensors: Vec<(u8, Option<IdString>)>,
     /// Of each attribute its handle and its name.
@@ -97,7 +97,7 @@ fn bytes_of(name: &Option<IdString>) -> Option<&[u8]>
 
 impl BoardNames {
     /// Those of the board of a file.
-    pub(crate) fn of(alloc: Global, file: &BoardFile) -> Result<Self, AllocError>
+    pub fn of(alloc: Global, file: &BoardFile) -> Result<Self, AllocError>
         ensures { IfOk result (λ names. names ≡ names_of file.now) }
     {
         let sensors = told_sensors(alloc, file)?.items;
@@ -136,7 +136,7 @@ impl BoardNames {
     }
 
     /// The name of the record's sensor or attribute, where it has one.
-    pub(crate) fn name_of(&self, key: &Key) -> Option<&[u8]>
+    pub fn name_of(&self, key: &Key) -> Option<&[u8]>
         ensures { option_map (λ name. name.now) result ≡ name_of self.now key.now }
     {
         match key {

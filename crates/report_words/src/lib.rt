@@ -18,6 +18,7 @@ mod table_entries;
 mod table_names;
 
 pub use attribute_names::attribute_name;
+pub use board_names::BoardNames;
 pub use change_list::ChangeList;
 pub use codes::{NamedCode, code_row};
 pub use laws::each_change_is_listed;

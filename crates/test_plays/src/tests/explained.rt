@@ -32,6 +32,27 @@ notes bmclab play board.toml plan.toml schedule.txt -> nothing
 bmclab play --explain board.toml plan.toml schedule.txt -> 0 out
   phase Halted 1 Refused CC / frames 8 / undo 1 / ipmb 102405FF0202 / records changed 1
 
+# The sensor's record is a compact one, and its id string has ten bytes of ASCII (IPMI 2.0, type/length byte CAh).
+story the names that a board gives are said
+board sample
+swap sdr = [\"010051C00100\"] => sdr = [\"01005102252000050000000000000000000000000000000000000000000000CA496E6C65742054656D70\"]
+plan
+  [[step]] / kind = \"thresholds\" / sensor = 5 / uc = 0x70
+  [[step]] / kind = \"bios-attribute\" / handle = 2 / number = 40
+schedule: start / to-bmc 0 / to-mgr 1 / to-bmc 2 / to-mgr 3
+notes bmclab play --explain board.toml plan.toml schedule.txt -> noted
+  halted at event 5, line 5 of the schedule, step 1 of 2 (sensor 5 (\"Inlet Temp\") thresholds): the controller refused the step's Set, with this code, and changed nothing
+  CCh invalid data field: a value, bit or number that this board or profile doesn't take; a channel without LAN parameters
+  next: look at the values that the command takes
+  next: mend the step. `undo` takes back the steps before it
+  1 of 2 steps was never tried
+plan: [[step]] / kind = \"bios-attribute\" / handle = 2 / number = 40
+schedule: start
+notes bmclab play --explain board.toml plan.toml schedule.txt -> noted
+  step 1 of 1 (attribute 2 (\"Delay\")): the step's Get is open / next: deliver its frames and the reply's, or `quiet`
+terminal bmclab play --chart --restart 1 board.toml plan.toml schedule.txt -> noted
+  step 1 of 1 (attribute 2 (\"Delay\")): ..
+
 story a halt is told of a plan that is undone
 # There is no sensor 9.
 board sample
@@ -148,6 +169,14 @@ notes bmclab schedule --undo board.toml plan.toml -> noted
   next: look at the values that the command takes
   next: mend the step. `undo` takes back the steps before it
   1 of 2 steps was never tried
+
+story a schedule's note says the names that the board gives
+board sample
+plan: [[step]] / kind = \"bios-attribute\" / handle = 2 / number = 35
+notes bmclab schedule board.toml plan.toml -> noted
+  halted at event 5, line 5 of the schedule, step 1 of 1 (attribute 2 (\"Delay\")): the controller refused the step's Set, with this code, and changed nothing
+  02h invalid data: a value, flag, handle or type that isn't taken
+  ..
 
 story a schedule that comes to its end says nothing
 board sample

@@ -235,8 +235,8 @@ bmclab check --against board.toml plan.toml -> 3 out
   plan.toml: step 0: user 9 name: the board hasn't it (CCh invalid data field)
   plan.toml: step 1: channel 9 volatile access: the board hasn't it (CCh invalid data field)
   plan.toml: step 2: attribute 9: the board hasn't it (88h particular to a command)
-  plan.toml: step 3: attribute 2: 35: would be refused (02h invalid data)
-  plan.toml: step 4: attribute 2: 30 -> 40
+  plan.toml: step 3: attribute 2 ("Delay"): 35: would be refused (02h invalid data)
+  plan.toml: step 4: attribute 2 ("Delay"): 30 -> 40
   plan.toml: step 5: LAN parameter 4 of channel 1: the board hasn't it (CCh invalid data field)
   plan.toml: step 6: numeric effecter 3: the board hasn't it (80h particular to a command)
 plan: [[step]] / kind = "thresholds" / sensor = 5 / uc = 0x5A
@@ -263,6 +263,29 @@ bmclab check --against board.toml plan.toml -> 5 err: memory
 board sample
 memory plan
 bmclab check --against board.toml plan.toml -> 5 err: memory
+
+# The sensor's record is a compact one, and its id string has ten bytes of ASCII (IPMI 2.0, type/length byte CAh). An attribute's name may have any character.
+story against a board the names that it gives are said
+board sample
+swap sdr = ["010051C00100"] => sdr = ["01005102252000050000000000000000000000000000000000000000000000CA496E6C65742054656D70"]
+swap name = "Delay" => name = "D\u00E9lai \"2\""
+plan: [[step]] / kind = "thresholds" / sensor = 5 / uc = 0x5A / [[step]] / kind = "thresholds" / sensor = 5 / uc = 0x70 / [[step]] / kind = "thresholds" / sensor = 5 / uc = 0x5A / [[step]] / kind = "event-enable" / sensor = 5 / messages = true / scanning = true / select = "leave" / [[step]] / kind = "hysteresis" / sensor = 7 / positive = 1 / negative = 1 / [[step]] / kind = "hysteresis" / sensor = 9 / positive = 1 / negative = 1 / [[step]] / kind = "bios-attribute" / handle = 2 / number = 40 / [[step]] / kind = "power-policy" / policy = 2
+bmclab check --against board.toml plan.toml -> 3 out
+  plan.toml: plan, 8 steps, retries 3
+  plan.toml: step 0: sensor 5 ("Inlet Temp") upper critical: 95 (5Fh) -> 90 (5Ah)
+  plan.toml: step 1: sensor 5 ("Inlet Temp") upper critical: 112 (70h): would be refused (CCh invalid data field)
+  plan.toml: step 2: sensor 5 ("Inlet Temp") thresholds: no change
+  plan.toml: step 3: sensor 5 ("Inlet Temp") event enable: no change
+  plan.toml: step 4: sensor 7 positive-going hysteresis: 0 (00h) -> 1 (01h); negative-going hysteresis: 0 (00h) -> 1 (01h)
+  plan.toml: step 5: sensor 9 hysteresis: the board hasn't it (CBh not present)
+  plan.toml: step 6: attribute 2 ("D\xC3\xA9lai \x222\x22"): 30 -> 40
+  plan.toml: step 7: power restore policy: previous -> always on
+# A sensor that a record names, and that isn't there, has its name, too.
+swap 252000050000 => 252000090000
+plan: [[step]] / kind = "hysteresis" / sensor = 9 / positive = 1 / negative = 1
+bmclab check --against board.toml plan.toml -> 3 out
+  plan.toml: plan, 1 step, retries 3
+  plan.toml: step 0: sensor 9 ("Inlet Temp") hysteresis: the board hasn't it (CBh not present)
 
 story a board and a plan in each other's place are told
 board: # A remark. / [[step]] / kind = "power-policy" / policy = 2 / [[step]] / kind = "power-policy" / policy = 1
