@@ -18,4 +18,4 @@ finds_long (key ∷ keys) [] old new finds = absurd finds
 finds_long (key ∷ keys) (of ∷ found) old new finds = ap suc (finds_long keys found finds.0 new finds.2)
 
 pub found_long : (way : Way) (steps : List Op) (found : List Found) → FindsAndNames way (records_of steps) found → length found ≡ length steps
-found_long way steps found over = finds_long (map key_of steps) found over.1.session over.0 over.1.finds ∙ length-map steps key_of
+found_long way steps found (names, (left, over, last)) = finds_long (map key_of steps) found over.session left over.finds ∙ length-map steps key_of

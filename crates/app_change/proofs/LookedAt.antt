@@ -31,5 +31,5 @@ found_each (key ∷ keys) [] old new none = absurd none
 
 -- so it is of each step
 pub one_for_each : (way : Way) (steps : List Op) (keys : List Key) (found : List Found) → keys ≡ keys_of steps → FindsAndNames way keys found → length found ≡ length steps
-one_for_each way steps keys found are finds =
-    found_each keys found finds.1.session finds.0 finds.1.finds ∙ ap (λ (ks : List Key). length ks) are ∙ length-map steps key_of
+one_for_each way steps keys found are (names, (left, over, last)) =
+    found_each keys found over.session left over.finds ∙ ap (λ (ks : List Key). length ks) are ∙ length-map steps key_of

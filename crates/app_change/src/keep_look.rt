@@ -2,7 +2,7 @@
 ghost use Rattle.std.specs.Prelude.{◌≡◌, ◌<◌, IfErr, IfOk, Some, length, map, slice_get};
 ghost use Rattle.record_base.specs.declared.op.Op.{Op as AnyOp};
 ghost use Rattle.record_kinds.specs.Limits.{key_of};
-ghost use Rattle.app_look.specs.Reading.{FindsAndNames};
+ghost use Rattle.app_look.specs.Reading.{FindsWithNames};
 ghost use Rattle.app_change.specs.KeepLook.{FailsFor, KeptByLook, records_of};
 
 use crate::keeping::{Narrowed, kept_steps};
@@ -45,7 +45,7 @@ fn keys_of(alloc: Global, steps: &Steps) -> Result<Vec<Key>, AllocError>
 /// Greets the controller, looks at the record of each step, and reads the names of sensors and attributes.
 fn look<R: Net>(rt: &R, alloc: Global, way: &Way, steps: &Steps) -> Result<NamedRecords, LookFault>
     ensures found { IfOk result (λ named.
-        FindsAndNames way.now (records_of steps.now) named.found.items) }
+        FindsWithNames way.now (records_of steps.now) named.found.items named.names) }
     ensures fault { IfErr result (FailsFor way.now steps.now) }
 {
     match keys_of(alloc, steps) {
@@ -61,7 +61,8 @@ pub fn keep_by_look<R: Net>(
     way: &Way,
     steps: &Steps,
 ) -> Result<NamedSteps, LookFault>
-    ensures kept { IfOk result (λ told. KeptByLook way.now steps.now told.narrowed.kept) }
+    ensures kept { IfOk result (λ told.
+        KeptByLook way.now steps.now told.narrowed.kept told.names) }
     ensures fault { IfErr result (FailsFor way.now steps.now) }
 {
     match look(rt, alloc, way, steps) {

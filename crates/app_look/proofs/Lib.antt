@@ -3,3 +3,4 @@ pub mod Looking
 pub mod Keys
 pub mod Findings
 pub mod Asks
+pub mod SensorRecords

@@ -49,6 +49,11 @@ TellsSeen _ _ = ⊥
 abbrev pub IsToldOf : Session → Told → Type 0
 IsToldOf session told = (came : Option Seen) × IsSeen session.looker.stage session.looker.shown came × TellsSeen came told
 
+-- this part was asked for, and this is told of it
+pub record PartTells (part : TablePart) (old : Session) (told : Told) (new : Session) : Type 0 where
+  pub asks : AsksPart part old new
+  pub tells : IsToldOf new told
+
 -- the number of two bytes, the low byte first
 abbrev pub word_at : List ℕ → ℕ → ℕ
 word_at bytes place = byte_at bytes place + 256 * byte_at bytes (place + 1)

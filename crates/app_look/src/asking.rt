@@ -1,6 +1,6 @@
 //! A request for a part of a table, and what it came to.
 ghost use Rattle.std.specs.Prelude.{◌≡◌, Some, take};
-ghost use Rattle.app_look.specs.Asking.{AsksPart, AsksTables, IsToldOf, TellsSeen, most_reply};
+ghost use Rattle.app_look.specs.Asking.{AsksTables, PartTells, TellsSeen, most_reply};
 
 use crate::session::Session;
 use two_wire::Bytes;
@@ -43,9 +43,8 @@ fn told_of(seen: Seen<'_>) -> Told
 
 /// Asks for a part of a table.
 pub(crate) fn ask_once(session: &mut Session, part: &TablePart) -> Told
-    ensures asked { AsksPart part.now session.old session.new }
     ensures tables { AsksTables session.old session.new }
-    ensures told { IsToldOf session.new result }
+    ensures told { PartTells part.now session.old result session.new }
 {
     session.ask(part);
     match session.seen() {

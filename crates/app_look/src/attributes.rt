@@ -1,6 +1,8 @@
 //! The names of attributes, by the tables of attributes and of strings.
-ghost use Rattle.std.specs.Prelude.{◌≡◌};
+ghost use Rattle.std.specs.Prelude.{◌≡◌, IfOk};
+ghost use Rattle.std.specs.Option.{option_map};
 ghost use Rattle.app_look.specs.Asking.{AsksTables, behind_part};
+ghost use Rattle.app_look.specs.AttributeTables.{AddsPart, ReadsAttributes, ReadsTable};
 
 use crate::session::Session;
 use bios_attr::BiosTable;
@@ -49,7 +51,9 @@ fn add_part(
     part: &TablePart,
     bytes: &mut Vec<u8>,
 ) -> Result<Behind, AllocError>
-    ensures { AsksTables session.old session.new }
+    ensures tables { AsksTables session.old session.new }
+    ensures added { IfOk result (λ behind.
+        AddsPart part.now session.old bytes.old.items behind session.new bytes.new.items) }
 {
     session.ask(part);
     match session.seen() {
@@ -57,7 +61,7 @@ fn add_part(
             bytes.extend_from_slice(entry_in(data))?;
             Ok(behind_part(data))
         }
-        _ => Ok(Behind::Unknown),
+        Some(Seen::Refused(_)) | None => Ok(Behind::Unknown),
     }
 }
 
@@ -67,7 +71,9 @@ fn read_table(
     session: &mut Session,
     table: BiosTable,
 ) -> Result<Option<Vec<u8>>, AllocError>
-    ensures { AsksTables session.old session.new }
+    ensures tables { AsksTables session.old session.new }
+    ensures read { IfOk result (λ read. ReadsTable table session.old
+        (option_map (λ bytes. bytes.items) read) session.new) }
 {
     let mut bytes = Vec::new(alloc);
     let mut transfer = 0;
@@ -87,7 +93,9 @@ pub(crate) fn read_attributes(
     session: &mut Session,
     names: &mut Names,
 ) -> Result<(), AllocError>
-    ensures { AsksTables session.old session.new }
+    ensures tables { AsksTables session.old session.new }
+    ensures names { IfOk result (λ _.
+        ReadsAttributes session.old names.old session.new names.new) }
 {
     if !names.wants_attributes() {
         return Ok(());

@@ -2,7 +2,7 @@
 ghost use Rattle.std.specs.Prelude.{IfErr, IfOk};
 ghost use Rattle.app_look.specs.Findings.{FailsOver};
 ghost use Rattle.app_look.specs.Asking.{AsksTables};
-ghost use Rattle.app_look.specs.Reading.{FindsAndNames};
+ghost use Rattle.app_look.specs.Reading.{FindsWithNames, ReadsNames};
 
 use crate::attributes::read_attributes;
 use crate::records::{Found, LookFault, Looked, look_and_stay};
@@ -22,7 +22,8 @@ pub struct NamedRecords {
 
 /// Reads the names of the sensors and attributes of these records, until a request isn't answered.
 pub fn read_names(alloc: Global, session: &mut Session, keys: &[Key]) -> Result<Names, AllocError>
-    ensures { AsksTables session.old session.new }
+    ensures tables { AsksTables session.old session.new }
+    ensures names { IfOk result (λ names. ReadsNames keys.now session.old session.new names) }
 {
     let mut names = Names::wanted(alloc, keys)?;
     read_sensors(session, &mut names);
@@ -38,7 +39,8 @@ pub fn look_and_name<R: Net>(
     way: &Way,
     keys: &[Key],
 ) -> Result<NamedRecords, LookFault>
-    ensures found { IfOk result (λ named. FindsAndNames way.now keys.now named.found.items) }
+    ensures found { IfOk result (λ named.
+        FindsWithNames way.now keys.now named.found.items named.names) }
     ensures fault { IfErr result (FailsOver way.now keys.now) }
 {
     let Looked { found, mut session } = look_and_stay(rt, alloc, way, keys)?;

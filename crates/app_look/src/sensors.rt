@@ -1,6 +1,9 @@
 //! The names of sensors, by the repository of sensor data records.
-ghost use Rattle.std.specs.Prelude.{◌≡◌, ◌≤◌, drop};
+ghost use Rattle.std.specs.Prelude.{◌≡◌, ◌≤◌, IfErr, IfOk, None, Some};
 ghost use Rattle.app_look.specs.Asking.{AsksTables, name_count, word_at};
+ghost use Rattle.app_look.specs.SensorRecords.{EndsPart, EndsRecord, ReadsIdString, ReadsRecord};
+ghost use Rattle.app_look.specs.SensorRecords.{ReadsSensors, Reserves, ShowsPart, cursor_at};
+ghost use Rattle.app_look.specs.SensorRecords.{record_in};
 
 use crate::asking::{Reply, Told, ask_once};
 use crate::session::Session;
@@ -51,7 +54,7 @@ fn word_at(bytes: &[u8], place: usize) -> u16
 
 /// The bytes of a record in a reply.
 fn record_in(reply: &Reply) -> &[u8]
-    ensures { result.now ≡ drop BEFORE_RECORD reply.now }
+    ensures { result.now ≡ record_in reply.now }
 {
     match reply.as_slice() {
         [_, _, record @ ..] => record,
@@ -61,7 +64,9 @@ fn record_in(reply: &Reply) -> &[u8]
 
 /// Reserves the repository. A controller that can't reserve it takes the number 0 (IPMI 2.0).
 fn reserve(session: &mut Session) -> Result<u16, Ended>
-    ensures { AsksTables session.old session.new }
+    ensures tables { AsksTables session.old session.new }
+    ensures reserved { IfOk result (λ number. Reserves session.old (Some number) session.new) }
+    ensures ended { IfErr result (λ _. Reserves session.old None session.new) }
 {
     match ask_once(session, &TablePart::Reservation) {
         Told::Shown(reply) => Ok(word_at(reply.as_slice(), 0)),
@@ -78,7 +83,11 @@ fn part_of_record(
     offset: u8,
     count: u8,
 ) -> Result<Reply, Ended>
-    ensures { AsksTables session.old session.new }
+    ensures tables { AsksTables session.old session.new }
+    ensures shown { IfOk result (λ reply. ShowsPart offset count (cursor_at session.old walk.old)
+        reply (cursor_at session.new walk.new)) }
+    ensures ended { IfErr result (λ _.
+        EndsPart offset count (cursor_at session.old walk.old) session.new) }
 {
     for _ in 0..MOST_RESERVED {
         let part = TablePart::SensorRecord {
@@ -92,7 +101,8 @@ fn part_of_record(
             Told::Refused(why) if why == code::RESERVATION_CANCELED.value() => {
                 walk.reservation = reserve(session)?;
             }
-            Told::Refused(_) | Told::Silent => return Err(Ended),
+            Told::Refused(_) => return Err(Ended),
+            Told::Silent => return Err(Ended),
         }
     }
     Err(Ended)
@@ -113,7 +123,11 @@ fn name_of(
     head: &SensorHead,
     size: u8,
 ) -> Result<Option<IdString>, Ended>
-    ensures { AsksTables session.old session.new }
+    ensures tables { AsksTables session.old session.new }
+    ensures named { IfOk result (λ name. ReadsIdString head.now size
+        (cursor_at session.old walk.old) name (cursor_at session.new walk.new)) }
+    ensures ended { IfErr result (λ _. EndsPart head.now.id_place
+        (name_count size head.now.id_place) (cursor_at session.old walk.old) session.new) }
 {
     let count = name_count(size, head.id_place);
     let reply = part_of_record(session, walk, head.id_place, count)?;
@@ -122,7 +136,12 @@ fn name_of(
 
 /// Reads the beginning of a record, and its name where that is wanted. It gives the id of the next.
 fn visit(session: &mut Session, walk: &mut Walk, names: &mut Names) -> Result<u16, Ended>
-    ensures { AsksTables session.old session.new }
+    ensures tables { AsksTables session.old session.new }
+    ensures read { IfOk result (λ next. ReadsRecord (cursor_at session.old walk.old) names.old next
+        (cursor_at session.new walk.new) names.new) }
+    ensures ended { IfErr result (λ _.
+        EndsRecord (cursor_at session.old walk.old) names.old session.new) }
+    ensures same_names { IfErr result (λ _. names.new ≡ names.old) }
 {
     let reply = part_of_record(session, walk, 0, HEAD)?;
     let record = record_in(&reply);
@@ -137,7 +156,8 @@ fn visit(session: &mut Session, walk: &mut Walk, names: &mut Names) -> Result<u1
 
 /// Reads the names of the sensors that are wanted, until each was found, or the last record was read, or a request ends that.
 pub(crate) fn read_sensors(session: &mut Session, names: &mut Names)
-    ensures { AsksTables session.old session.new }
+    ensures tables { AsksTables session.old session.new }
+    ensures names { ReadsSensors session.old names.old session.new names.new }
 {
     if !names.wants_sensors() {
         return;

@@ -4,8 +4,8 @@ use Rattle.record_base.specs.declared.key.Key.{Key}
 use Rattle.report_words.specs.declared.table_names.Names.{Names}
 use Rattle.report_words.specs.TableNames.{KnowsNone}
 use Rattle.app_look.specs.declared.session.Session.{Session}
-use Rattle.app_look.specs.Asking.{AsksTables}
 use Rattle.app_look.specs.Opened.{session_over}
+use Rattle.app_look.specs.Reading.{KnowsNames}
 use Rattle.app_revert.specs.declared.looking.Eye.{Eye}
 use Rattle.app_revert.specs.declared.looking.Looked.{Looked}
 
@@ -17,11 +17,11 @@ asks_names looked = looked.differs && not looked.unseen
 abbrev pub keys_of : Looked → List Key
 keys_of looked = map (λ sighting. sighting.key) looked.sightings.items
 
--- parts of the controller's tables alone were asked for by this looker, over its links as they were: no greeting came before
-abbrev pub AsksOver : (agains : ℕ) → (eye : Eye) → Type 0
-AsksOver agains eye = (last : Session) × AsksTables (session_over eye.looker eye.ends agains) last
+-- the names of these records were read by this looker, over its links as they were: no greeting came before
+abbrev pub ReadsOver : (agains : ℕ) → List Key → (eye : Eye) → Names → Type 0
+ReadsOver agains keys eye names = (last : Session) × KnowsNames keys (session_over eye.looker eye.ends agains) last names
 
--- Where names are read, that was done behind the looks, by their looker. Else nothing was asked for behind them, and no name is known.
+-- Where names are read, those of the records that the looks named were, behind the looks. Else nothing was asked for behind them, and no name is known.
 abbrev pub ReadsBehind : (agains : ℕ) → Looked → (eye : Eye) → Names → Type 0
 ReadsBehind agains looked eye names =
-    ((asks_names looked ≡ true) × AsksOver agains eye) ⊎ ((asks_names looked ≡ false) × KnowsNone names)
+    ((asks_names looked ≡ true) × ReadsOver agains (keys_of looked) eye names) ⊎ ((asks_names looked ≡ false) × KnowsNone names)

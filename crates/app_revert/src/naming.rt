@@ -1,7 +1,8 @@
 //! The names of the sensors and attributes of records that aren't as before.
 ghost use Rattle.std.specs.Prelude.{◌≡◌, IfOk};
 ghost use Rattle.app_look.specs.Asking.{AsksTables};
-ghost use Rattle.app_revert.specs.Names.{AsksOver, ReadsBehind, asks_names, keys_of};
+ghost use Rattle.app_look.specs.Reading.{ReadsNames};
+ghost use Rattle.app_revert.specs.Names.{ReadsBehind, ReadsOver, asks_names, keys_of};
 
 use crate::looking::{Eye, Looked};
 use app_look::{Session, read_names};
@@ -26,7 +27,9 @@ fn keys_of(alloc: Global, looked: &Looked) -> Result<AtOnce<Key>, AllocError>
 
 /// Reads the names of the sensors and attributes of the records that the looks named.
 fn read_named(alloc: Global, session: &mut Session, looked: &Looked) -> Result<Names, AllocError>
-    ensures { AsksTables session.old session.new }
+    ensures tables { AsksTables session.old session.new }
+    ensures names { IfOk result (λ names.
+        ReadsNames (keys_of looked.now) session.old session.new names) }
 {
     let keys = keys_of(alloc, looked)?;
     read_names(alloc, session, keys.items.as_slice())
@@ -35,7 +38,7 @@ fn read_named(alloc: Global, session: &mut Session, looked: &Looked) -> Result<N
 /// Reads these names by a looker that is there, and over its links: the requests go on with its next numbers, and no greeting comes before them. Where
 /// memory is refused there is no name, and that is no fault.
 fn read_over(alloc: Global, eye: Eye, agains: u32, looked: &Looked) -> Names
-    ensures { AsksOver agains eye }
+    ensures { ReadsOver agains (keys_of looked.now) eye result }
 {
     let Eye { looker, ends } = eye;
     let mut session = Session::over(looker, ends, agains);

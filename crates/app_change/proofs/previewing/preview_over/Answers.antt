@@ -9,7 +9,7 @@ use Rattle.app_change.proofs.previewing.preview_over.Goals as goal
 pub tell_of-requires : goal.tell_of-requires
 tell_of-requires g c =
     one_for_each c.way_of-way.result c.args.plan.now.steps c.as_slice.result.now c.in-Ok-look_and_name.named.found.items (c.as_slice.ensures.value ∙ c.in-Ok.ensures)
-    c.in-Ok-look_and_name.ensures.found
+    (c.in-Ok-look_and_name.named.names, c.in-Ok-look_and_name.ensures.found)
 
 pub returns-in-Ok-look_and_name : goal.returns-in-Ok-look_and_name
 returns-in-Ok-look_and_name g c =
@@ -17,6 +17,6 @@ returns-in-Ok-look_and_name g c =
     inl (
       found,
       subst (λ (way : Way). FindsAndNames way (keys_of c.args.plan.now.steps) found) c.way_of-way.ensures
-          (subst (λ (keys : List Key). FindsAndNames c.way_of-way.result keys found) (c.as_slice.ensures.value ∙ c.in-Ok.ensures) c.in-Ok-look_and_name.ensures.found),
+          (subst (λ (keys : List Key). FindsAndNames c.way_of-way.result keys found) (c.as_slice.ensures.value ∙ c.in-Ok.ensures) (c.in-Ok-look_and_name.named.names, c.in-Ok-look_and_name.ensures.found)),
       c.tell_of.ensures,
     )
