@@ -2,7 +2,7 @@
 ghost use Rattle.shown_records.specs.AsItIs.{SetsBack};
 ghost use Rattle.shown_records.specs.Foresight.{ChangesRecord, Foresees, ForeseesAll, LeavesAll, StaysSame};
 
-/// Where a record accepts operations, its Get then shows what `shown_records` foresees: of one all that it shows, while the activity is the same,
+/// Where a record accepts operations, its Get then shows what `shown_after` foresees: of one all that it shows, while the activity is the same,
 /// and of one after another the configuration, whatever the activity is.
 pub fn gets_are_foreseen()
     ensures foresees { Foresees }
