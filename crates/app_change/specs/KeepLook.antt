@@ -1,5 +1,6 @@
 -- The look by which it is known which steps of a plan are kept.
-use Rattle.std.specs.Prelude.{◌≡◌, List, map}
+use Rattle.std.specs.Prelude.{◌≡◌, List, Result, map}
+use Rattle.std.specs.declared.alloc.AllocError.{AllocError}
 use Rattle.record_base.specs.declared.key.Key.{Key}
 use Rattle.record_base.specs.declared.op.Op.{Op}
 use Rattle.record_kinds.specs.Limits.{key_of}
@@ -17,7 +18,7 @@ records_of = map key_of
 
 -- The controller was greeted, and the record of each step was looked at; behind that these names were read. Those steps are kept that are, by what was
 -- found.
-abbrev pub KeptByLook : Way → (steps kept : List Op) → Names → Type 0
+abbrev pub KeptByLook : Way → (steps kept : List Op) → Result Names AllocError → Type 0
 KeptByLook way steps kept names = (found : List Found) × FindsWithNames way (records_of steps) found names × (kept ≡ kept_of steps found)
 
 -- or not each was

@@ -370,6 +370,7 @@ fn keep_changes<R: Net>(
                 steps: kept,
                 retries: plan.retries,
             };
+            let names = names.unwrap_or(Names::new(alloc));
             let named = NamedPlan { plan, names };
             Ok(KeptPlan { named, left_out })
         }

@@ -6,19 +6,18 @@ ghost use Rattle.app_look.specs.Reading.{FindsWithNames};
 ghost use Rattle.app_change.specs.KeepLook.{FailsFor, KeptByLook, records_of};
 
 use crate::keeping::{Narrowed, kept_steps};
-use app_look::{LookFault, NamedRecords, OpenFault, Way, look_and_name};
+use app_look::{KnownNames, LookFault, NamedRecords, OpenFault, Way, look_and_name};
 use record_base::{Key, RecordKind};
 use record_kinds::Limits;
-use report_words::Names;
 use std::alloc::{AllocError, Global};
 use std::net::Net;
 use undo_plans::Steps;
 
-/// The steps that a look keeps, and the names of sensors and attributes that it told.
+/// The steps that a look keeps, and the names of sensors and attributes that were read behind it.
 #[derive(Drop)]
 pub struct NamedSteps {
     pub narrowed: Narrowed,
-    pub names: Names,
+    pub names: KnownNames,
 }
 
 /// The record of the step of this place.

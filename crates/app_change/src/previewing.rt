@@ -15,7 +15,7 @@ use app_apply::refusing::{say_refused, say_unread};
 use app_apply::sentences::{port_text, push_unanswered};
 use app_apply::{Reach, StrictFault, strict_plan};
 use app_base::{Console, ReportFault, Status, Stream, TextFiles, end_run, text_of};
-use app_look::{LookFault, NamedRecords, OpenFault, StopFault, Way, look_and_name};
+use app_look::{Found, LookFault, NamedRecords, OpenFault, StopFault, Way, look_and_name};
 use app_run::Unanswered;
 use record_base::{Key, RecordKind};
 use record_kinds::Limits;
@@ -106,23 +106,24 @@ fn text_for(
     }
 }
 
-/// Tells of each step what it would make of what the steps before it leave, by what was found of its record.
+/// Tells of each step what it would make of what the steps before it leave, by what was found of its record, with the names that are known.
 fn tell_of<W: io::Write, E: io::Write>(
     alloc: Global,
     steps: &Steps,
-    named: &NamedRecords,
+    found: &[Found],
+    names: &Names,
     json: bool,
     console: &mut Console<W, E>,
 ) -> u8
-    requires { length named.now.found.items ≡ length steps.now }
-    ensures { TellsOf W.contents E.contents steps.now named.now.found.items
+    requires { length found.now ≡ length steps.now }
+    ensures { TellsOf W.contents E.contents steps.now found.now
         console.old console.new result }
 {
-    let Ok(outlooks) = foresee_all(alloc, steps, named.found.as_slice()) else {
+    let Ok(outlooks) = foresee_all(alloc, steps, found) else {
         return end_run(&Err(ReportFault::Memory), console);
     };
     let status = status_of(outlooks.as_slice());
-    let text = text_for(alloc, steps, outlooks.as_slice(), &named.names, json);
+    let text = text_for(alloc, steps, outlooks.as_slice(), names, json);
     say_on(text, Stream::Output, status, console)
 }
 
@@ -204,7 +205,18 @@ fn preview_over<W: io::Write, E: io::Write, R: Net>(
     };
     let way = way_of(&words.reach, plan.retries);
     match look_and_name(rt, alloc, &way, keys.as_slice()) {
-        Ok(named) => tell_of(alloc, &plan.steps, &named, words.json, console),
+        Ok(named) => {
+            let NamedRecords { found, names } = named;
+            let names = names.unwrap_or(Names::new(alloc));
+            tell_of(
+                alloc,
+                &plan.steps,
+                found.as_slice(),
+                &names,
+                words.json,
+                console,
+            )
+        }
         Err(why) => end_untold(alloc, &plan.steps, why, &words.reach, console),
     }
 }

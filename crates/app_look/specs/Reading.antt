@@ -1,8 +1,9 @@
 -- A look at records, behind which the names of their sensors and attributes are read.
-use Rattle.std.specs.Prelude.{◌⊎◌, List}
+use Rattle.std.specs.Prelude.{List, IfOk, Result}
+use Rattle.std.specs.declared.alloc.AllocError.{AllocError}
 use Rattle.record_base.specs.declared.key.Key.{Key}
 use Rattle.report_words.specs.declared.table_names.Names.{Names}
-use Rattle.report_words.specs.TableNames.{AreWanted, KnowsNone}
+use Rattle.report_words.specs.TableNames.{AreWanted}
 use Rattle.app_look.specs.declared.records.Found.{Found}
 use Rattle.app_look.specs.declared.session.Session.{Session}
 use Rattle.app_look.specs.declared.session.Way.{Way}
@@ -20,14 +21,14 @@ pub record ReadsNames (keys : List Key) (old new : Session) (names : Names) : Ty
   pub sensors : ReadsSensors old wanted mid read
   pub attributes : ReadsAttributes mid read new names
 
--- so they are; or memory was refused: parts of tables alone were asked for, and no name is known
-abbrev pub KnowsNames : List Key → (old new : Session) → Names → Type 0
-KnowsNames keys old new names = ReadsNames keys old new names ⊎ (AsksTables old new × KnowsNone names)
+-- nothing but parts of tables was asked for; and the names are those that the tables give, unless memory for them was refused
+abbrev pub KnowsNames : List Key → (old new : Session) → Result Names AllocError → Type 0
+KnowsNames keys old new came = AsksTables old new × IfOk came (ReadsNames keys old new)
 
 -- each record was looked at, and these names were read behind that
-abbrev pub FindsWithNames : Way → List Key → List Found → Names → Type 0
+abbrev pub FindsWithNames : Way → List Key → List Found → Result Names AllocError → Type 0
 FindsWithNames way keys found names = (left : Session) × StaysOver way keys found left × ((last : Session) × KnowsNames keys left last names)
 
 -- so it was with some names
 abbrev pub FindsAndNames : Way → List Key → List Found → Type 0
-FindsAndNames way keys found = (names : Names) × FindsWithNames way keys found names
+FindsAndNames way keys found = (names : Result Names AllocError) × FindsWithNames way keys found names

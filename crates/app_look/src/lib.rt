@@ -12,6 +12,6 @@ mod sensors;
 mod session;
 
 pub use look_driver::{LookEnd, drive_again, drive_look};
-pub use reading::{NamedRecords, look_and_name, read_names};
+pub use reading::{KnownNames, NamedRecords, look_and_name, read_names};
 pub use records::{Came, Found, LookFault, Looked, StopFault, look_and_stay, look_at_each};
 pub use session::{OpenFault, Session, Way};

@@ -13,15 +13,18 @@ use report_words::Names;
 use std::alloc::{AllocError, Global};
 use std::net::Net;
 
+/// Names that were read, unless memory for them was refused.
+pub type KnownNames = Result<Names, AllocError>;
+
 /// What was found of records, and the names of their sensors and attributes.
 #[derive(Drop)]
 pub struct NamedRecords {
     pub found: Vec<Found>,
-    pub names: Names,
+    pub names: KnownNames,
 }
 
 /// Reads the names of the sensors and attributes of these records, until a request isn't answered.
-pub fn read_names(alloc: Global, session: &mut Session, keys: &[Key]) -> Result<Names, AllocError>
+pub fn read_names(alloc: Global, session: &mut Session, keys: &[Key]) -> KnownNames
     ensures tables { AsksTables session.old session.new }
     ensures names { IfOk result (λ names. ReadsNames keys.now session.old session.new names) }
 {
@@ -32,7 +35,7 @@ pub fn read_names(alloc: Global, session: &mut Session, keys: &[Key]) -> Result<
 }
 
 /// Greets a controller on the buses on which the Gets of these records go, looks at each of them, and reads the names of their sensors and
-/// attributes behind that. Where there are none, that is no fault.
+/// attributes behind that. Where there are none, or memory for them is refused, that is no fault.
 pub fn look_and_name<R: Net>(
     rt: &R,
     alloc: Global,
@@ -44,11 +47,6 @@ pub fn look_and_name<R: Net>(
     ensures fault { IfErr result (FailsOver way.now keys.now) }
 {
     let Looked { found, mut session } = look_and_stay(rt, alloc, way, keys)?;
-    match read_names(alloc, &mut session, keys) {
-        Ok(names) => Ok(NamedRecords { found, names }),
-        Err(AllocError) => Ok(NamedRecords {
-            found,
-            names: Names::new(alloc),
-        }),
-    }
+    let names = read_names(alloc, &mut session, keys);
+    Ok(NamedRecords { found, names })
 }

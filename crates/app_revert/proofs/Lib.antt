@@ -2,3 +2,4 @@ mod Records
 mod Eyes
 mod Unfits
 mod Reverts
+mod Lines

@@ -1,6 +1,7 @@
 -- The look behind a revert: each record is asked for by its Get, and what that shows is compared with what the list's request sets. Names are read
 -- behind that.
-use Rattle.std.specs.Prelude.{◌≡◌, ◌≢◌, ◌⊎◌, ◌++◌, ◌&&◌, ◌==◌, ℕ, suc, Bool, true, false, Contains, List, [], ◌∷◌, Option, Some, None}
+use Rattle.std.specs.Prelude.{◌≡◌, ◌≢◌, ◌⊎◌, ◌++◌, ◌&&◌, ◌==◌, ℕ, suc, Bool, true, false, Contains, List, [], ◌∷◌, Option, Some, None, Result}
+use Rattle.std.specs.declared.alloc.AllocError.{AllocError}
 use Rattle.std.specs.Option.{option_to_list}
 use Rattle.wire_links.specs.Counted.{none_counted}
 use Rattle.wire_links.specs.contracts.udp_link.UdpLinkLink.TheImpl as udp
@@ -26,13 +27,12 @@ use Rattle.app_look.specs.declared.look_driver.LookEnd.{LookEnd}
 use Rattle.app_look.specs.declared.look_driver.LookEnd.TheVariants.{Silent}
 use Rattle.app_look.specs.Driven as driven
 use Rattle.report_words.specs.declared.table_names.Names.{Names}
-use Rattle.report_words.specs.TableNames.{KnowsNone}
 use Rattle.app_run.specs.Driven.{undo_retries}
 use Rattle.app_revert.specs.declared.looking.Eye.{Eye}
 use Rattle.app_revert.specs.declared.looking.Looked.{Looked}
 use Rattle.app_revert.specs.declared.looking.Sight.{Sight}
 use Rattle.app_revert.specs.declared.looking.Sight.TheVariants.{AsBefore, Differs, Unseen}
-use Rattle.app_revert.specs.Names.{ReadsBehind}
+use Rattle.app_revert.specs.Names.{HasNoName, ReadsBehind}
 use Rattle.app_apply.specs.Kept.{most_turns}
 
 -- ---- what is shown
@@ -158,7 +158,7 @@ pub record IsNewEye (list : UndoList) (eye : Eye) : Type 0 where
 
 -- each record of the list's requests, and behind them of that of the step in doubt, was looked at, and this was told; and behind that so the names
 -- were read
-pub record LooksOver (agains : ℕ) (list : UndoList) (doubt : List Asked) (told : Looked) (names : Names) : Type 0 where
+pub record LooksOver (agains : ℕ) (list : UndoList) (doubt : List Asked) (told : Looked) (names : Result Names AllocError) : Type 0 where
   pub before : Eye
   pub after : Eye
   pub none : Looked
@@ -173,5 +173,5 @@ doubts manager = option_to_list ((kept_by manager).waiting)
 
 -- Each record was looked at, by requests that go on with the list's next numbers, and behind that so the names were read; or no link could be had,
 -- and that is told. No greeting comes before: a controller that is greeted carries out late copies of what it answered.
-abbrev pub LooksBehind : (agains : ℕ) → UndoList → (doubt : List Asked) → Looked → Names → Type 0
-LooksBehind agains list doubt told names = LooksOver agains list doubt told names ⊎ (TellsNoAnswer told × KnowsNone names)
+abbrev pub LooksBehind : (agains : ℕ) → UndoList → (doubt : List Asked) → Looked → Result Names AllocError → Type 0
+LooksBehind agains list doubt told names = LooksOver agains list doubt told names ⊎ (TellsNoAnswer told × HasNoName names)

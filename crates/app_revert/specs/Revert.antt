@@ -44,7 +44,6 @@ use Rattle.app_run.specs.JournalUndo.{IsJournal}
 use Rattle.app_run.specs.Greeted.{AreGreeted, greetings_before_undo}
 use Rattle.app_run.specs.Reverting.{settles_none}
 use Rattle.report_words.specs.declared.table_names.Names.{Names}
-use Rattle.report_words.specs.TableNames.{KnowsNone}
 use Rattle.app_apply.specs.declared.outcome.Outcome.{Outcome}
 use Rattle.app_apply.specs.declared.outcome.Outcome.TheVariants.{Empty, Unmade, Unkept, Ungreeted, NoLink, Ended}
 use Rattle.app_apply.specs.declared.kept_calls.Reach.{Reach}
@@ -57,6 +56,7 @@ use Rattle.app_apply.specs.Ends.{SaysOn, SaysUnreadOn, stream_for}
 use Rattle.app_apply.specs.Guard.{HoldsOwn, PutsOwnAside, is_nothing}
 use Rattle.app_apply.specs.Kept.{KeepsWay, most_turns}
 use Rattle.app_revert.specs.Looks.{LooksBehind, TellsNothing, doubts}
+use Rattle.app_revert.specs.Names.{HasNoName}
 use Rattle.app_revert.specs.Statuses.{status_behind}
 
 -- all that was done was taken back
@@ -208,10 +208,10 @@ module _ {Files : Type 0} (files : written.Ghosts Files) (beside : UndoFiles) wh
 
 -- Once all is taken back, each record of the manager's list was looked at, and that of the step that was in doubt, and behind that so the names were
 -- read. Else none was looked at, and no name is known.
-abbrev pub Looks : (agains : ℕ) → (after : Manager) → (doubt : List Asked) → Outcome → Looked → Names → Type 0
+abbrev pub Looks : (agains : ℕ) → (after : Manager) → (doubt : List Asked) → Outcome → Looked → Result Names AllocError → Type 0
 Looks agains after doubt (Ended Undone (Ok done)) looked names =
     (list : UndoList) × HasList after list × LooksBehind agains list doubt looked names
-Looks agains after doubt came looked names = TellsNothing looked × KnowsNone names
+Looks agains after doubt came looked names = TellsNothing looked × HasNoName names
 
 -- this came of a manager, and so the looks behind it, and the names behind these
 abbrev pub IsReverted : (agains : ℕ) → (after : Manager) → (doubt : List Asked) → Outcome → Reverted → Type 0

@@ -12,7 +12,7 @@ ghost use Rattle.app_revert.specs.Looks.{leaves_alone, selects_none};
 
 use crate::naming::names_behind;
 use app_apply::{MOST_TURNS, Reach};
-use app_look::{LookEnd, drive_again, drive_look};
+use app_look::{KnownNames, LookEnd, drive_again, drive_look};
 use app_run::{BusLinks, open_ends};
 use model_lab::lab_names;
 use record_base::{EventChange, EventMasks, Key, Op, RecordKind, SetEventEnable};
@@ -363,7 +363,7 @@ fn look_over(
     doubt: &Requests,
     ends: BusLinks,
     agains: u32,
-) -> Result<(Looked, Names), AllocError>
+) -> Result<(Looked, KnownNames), AllocError>
     requires ipmb { ends.ipmb.counts ≡ none_counted }
     requires smbus { ends.smbus.counts ≡ none_counted }
     requires doubt { length doubt.now.members ≤ 1 }
@@ -397,7 +397,7 @@ pub(crate) fn look_behind<R: Net>(
     list: &UndoList,
     doubt: &Requests,
     reach: &Reach,
-) -> Result<(Looked, Names), AllocError>
+) -> Result<(Looked, KnownNames), AllocError>
     requires { length doubt.now.members ≤ 1 }
     ensures { IfOk result (λ told.
         LooksBehind reach.now.again list.now doubt.now.members told.0 told.1) }
@@ -405,6 +405,6 @@ pub(crate) fn look_behind<R: Net>(
     let ends = open_ends(rt, reach.ipmb_port, reach.smbus_or_none(), reach.wait_ms);
     match ends {
         Some(ends) => look_over(alloc, list, doubt, ends, reach.again),
-        None => Ok((Looked::unanswered(alloc), Names::new(alloc))),
+        None => Ok((Looked::unanswered(alloc), Ok(Names::new(alloc)))),
     }
 }

@@ -5,7 +5,7 @@ ghost use Rattle.app_look.specs.Reading.{ReadsNames};
 ghost use Rattle.app_revert.specs.Names.{ReadsBehind, ReadsOver, asks_names, keys_of};
 
 use crate::looking::{Eye, Looked};
-use app_look::{Session, read_names};
+use app_look::{KnownNames, Session, read_names};
 use record_base::{AtOnce, Key};
 use report_words::Names;
 use std::alloc::{AllocError, Global};
@@ -26,7 +26,7 @@ fn keys_of(alloc: Global, looked: &Looked) -> Result<AtOnce<Key>, AllocError>
 }
 
 /// Reads the names of the sensors and attributes of the records that the looks named.
-fn read_named(alloc: Global, session: &mut Session, looked: &Looked) -> Result<Names, AllocError>
+fn read_named(alloc: Global, session: &mut Session, looked: &Looked) -> KnownNames
     ensures tables { AsksTables session.old session.new }
     ensures names { IfOk result (λ names.
         ReadsNames (keys_of looked.now) session.old session.new names) }
@@ -35,28 +35,24 @@ fn read_named(alloc: Global, session: &mut Session, looked: &Looked) -> Result<N
     read_names(alloc, session, keys.items.as_slice())
 }
 
-/// Reads these names by a looker that is there, and over its links: the requests go on with its next numbers, and no greeting comes before them. Where
-/// memory is refused there is no name, and that is no fault.
-fn read_over(alloc: Global, eye: Eye, agains: u32, looked: &Looked) -> Names
+/// Reads these names by a looker that is there, and over its links: the requests go on with its next numbers, and no greeting comes before them.
+fn read_over(alloc: Global, eye: Eye, agains: u32, looked: &Looked) -> KnownNames
     ensures { ReadsOver agains (keys_of looked.now) eye result }
 {
     let Eye { looker, ends } = eye;
     let mut session = Session::over(looker, ends, agains);
-    match read_named(alloc, &mut session, looked) {
-        Ok(names) => names,
-        Err(AllocError) => Names::new(alloc),
-    }
+    read_named(alloc, &mut session, looked)
 }
 
 /// Reads the names of the sensors and attributes of the records that aren't as before, by the looker that looked at them. Where each is as before, or a
 /// look wasn't answered, nothing is asked for.
-pub(crate) fn names_behind(alloc: Global, eye: Eye, agains: u32, looked: &Looked) -> Names
+pub(crate) fn names_behind(alloc: Global, eye: Eye, agains: u32, looked: &Looked) -> KnownNames
     ensures { ReadsBehind agains looked.now eye result }
 {
     if asks_names(looked) {
         read_over(alloc, eye, agains, looked)
     } else {
         drop(eye);
-        Names::new(alloc)
+        Ok(Names::new(alloc))
     }
 }

@@ -5,8 +5,9 @@ use crate::reverting::{RevertWords, Reverted};
 use app_apply::objects::{name_of, object_line};
 use app_apply::sentences::push_revert;
 use app_apply::{Outcome, Reach};
+use app_look::KnownNames;
 use record_words::{RecordName, undo_in_words};
-use report_words::{Names, code_row};
+use report_words::code_row;
 use serde::Serialize;
 use std::alloc::{AllocError, Global};
 use two_wire::Code;
@@ -198,11 +199,14 @@ fn sight_word(sight: Sight) -> &'static str {
 fn record_of(
     alloc: Global,
     sighting: &Sighting,
-    names: &Names,
+    names: &KnownNames,
 ) -> Result<RecordObject, AllocError> {
     let key = &sighting.key;
     let record = format!(in alloc; "{}", RecordName(*key))?;
-    let name = name_of(alloc, names, key)?;
+    let name = match names {
+        Ok(names) => name_of(alloc, names, key)?,
+        Err(AllocError) => None,
+    };
     let why = sight_word(sighting.sight);
     Ok(RecordObject { record, name, why })
 }

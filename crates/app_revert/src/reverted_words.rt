@@ -1,4 +1,10 @@
 //! What `bmcnet revert` says at its end: what is so, and what to call next.
+ghost use Rattle.std.specs.List.{flat_map};
+ghost use Rattle.std.specs.Option.{option_map};
+ghost use Rattle.std.specs.Prelude.{◌≡◌, ◌++◌, IfOk, OnOk, string_bytes};
+ghost use Rattle.app_revert.specs.Sentences.{EndsInLooked, line_of, looked_words, name_in};
+ghost use Rattle.app_revert.specs.Sentences.{sight_words};
+
 use crate::looking::{Sight, Sighting};
 use crate::reading::Unfit;
 use crate::reverting::{RevertWords, Reverted};
@@ -6,8 +12,9 @@ use app_apply::sentences::{
     push_code, push_revert, push_standing, push_unanswered, push_unsettled,
 };
 use app_apply::{Outcome, Reach};
+use app_look::KnownNames;
+use record_base::Key;
 use record_words::{RecordName, push_named, undo_in_words};
-use report_words::Names;
 use std::alloc::{AllocError, Global};
 use two_wire::{Bus, Code};
 use undo_core::{Manager, Phase};
@@ -124,11 +131,23 @@ fn push_unkept_back(
 }
 
 /// What a look showed.
-fn sight_words(sight: Sight) -> &'static str {
+fn sight_words(sight: Sight) -> &'static str
+    ensures { result.now ≡ sight_words sight }
+{
     match sight {
         Sight::AsBefore => "is as before",
         Sight::Differs => "isn't as before: somebody else set it, or the controller lost it",
         Sight::Unseen => "couldn't be looked at: no answer",
+    }
+}
+
+/// The name of the record's sensor or attribute, where it is among those that were read.
+fn name_in<'a>(names: &'a KnownNames, key: &Key) -> Option<&'a [u8]>
+    ensures { option_map (λ name. name.now) result ≡ name_in names.now key.now }
+{
+    match names {
+        Ok(names) => names.of(key),
+        Err(AllocError) => None,
     }
 }
 
@@ -137,33 +156,54 @@ fn push_sighting(
     alloc: Global,
     text: &mut String,
     sighting: &Sighting,
-    names: &Names,
-) -> Result<(), AllocError> {
+    names: &KnownNames,
+) -> Result<(), AllocError>
+    ensures { OnOk result (string_bytes text.new ≡ string_bytes text.old
+        ++ line_of names.now sighting.now) }
+{
     let key = &sighting.key;
     let record = RecordName(*key);
     let sight = sight_words(sighting.sight);
     let said = format!(in alloc; "{record} {sight}\n")?;
-    push_named(alloc, text, key, names.of(key), said.as_str())
+    push_named(alloc, text, key, name_in(names, key), said.as_str())
 }
 
-/// Adds what the looks told.
-fn push_looked(alloc: Global, text: &mut String, reverted: &Reverted) -> Result<(), AllocError> {
-    let looked = &reverted.looked;
-    if looked.unseen && looked.sightings.len() == 0 {
-        return text.push_str("no record could be looked at: no answer\n");
-    }
-    for sighting in &looked.sightings {
-        push_sighting(alloc, text, sighting, &reverted.names)?;
+/// Adds the lines of these.
+fn push_sightings(
+    alloc: Global,
+    text: &mut String,
+    sightings: &[Sighting],
+    names: &KnownNames,
+) -> Result<(), AllocError>
+    ensures { OnOk result (string_bytes text.new ≡ string_bytes text.old
+        ++ flat_map (line_of names.now) sightings.now) }
+{
+    for sighting in sightings {
+        push_sighting(alloc, text, sighting, names)?;
     }
     Ok(())
 }
 
-/// What is said of what was taken back.
+/// Adds what the looks told.
+fn push_looked(alloc: Global, text: &mut String, reverted: &Reverted) -> Result<(), AllocError>
+    ensures { OnOk result (string_bytes text.new ≡ string_bytes text.old
+        ++ looked_words reverted.now.looked reverted.now.names) }
+{
+    let looked = &reverted.looked;
+    if looked.unseen && looked.sightings.len() == 0 {
+        return text.push_str("no record could be looked at: no answer\n");
+    }
+    push_sightings(alloc, text, looked.sightings.as_slice(), &reverted.names)
+}
+
+/// What is said of what was taken back. At its end stands what the looks told.
 pub fn revert_text(
     alloc: Global,
     words: &RevertWords,
     reverted: &Reverted,
-) -> Result<String, AllocError> {
+) -> Result<String, AllocError>
+    ensures { IfOk result (λ text. EndsInLooked reverted.now (string_bytes text)) }
+{
     let mut text = String::new(alloc);
     let (file, reach) = (words.file.as_str(), &words.reach);
     match reverted.outcome {

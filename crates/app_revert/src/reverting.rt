@@ -26,6 +26,7 @@ use app_apply::sentences::{held_text, port_text};
 use app_apply::{Outcome, Reach};
 use app_base::{Console, ReportFault, Status, Stream, TextFiles, end_run, text_of};
 use app_journal::{JournalTexts, Standing, UndoFiles, WriteFault, WritesFiles, standing_in};
+use app_look::KnownNames;
 use app_run::{Progress, requests_use};
 use report_words::Names;
 use std::alloc::{AllocError, Global};
@@ -54,7 +55,7 @@ pub struct Reverted {
     /// What the looks behind it told. Where not all was taken back, there were none.
     pub looked: Looked,
     /// The names of the sensors and attributes whose records aren't as before, as far as they could be read.
-    pub names: Names,
+    pub names: KnownNames,
 }
 
 impl Reverted {
@@ -185,7 +186,7 @@ fn look_after<R: Net>(
     outcome: &Outcome,
     doubt: &Requests,
     reach: &Reach,
-) -> Result<(Looked, Names), AllocError>
+) -> Result<(Looked, KnownNames), AllocError>
     requires { length doubt.now.members ≤ 1 }
     ensures { IfOk result (λ told.
         Looks reach.now.again manager.now doubt.now.members outcome.now told.0 told.1) }
@@ -194,7 +195,7 @@ fn look_after<R: Net>(
         Outcome::Ended(Phase::Undone, Ok(())) => {
             look_behind(rt, alloc, manager.undo_list(), doubt, reach)
         }
-        _ => Ok((Looked::none(alloc), Names::new(alloc))),
+        _ => Ok((Looked::none(alloc), Ok(Names::new(alloc)))),
     }
 }
 

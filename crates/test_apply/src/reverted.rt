@@ -5,7 +5,7 @@ use app_revert::{Looked, RevertWords, Reverted, Sight, Sighting, revert_json, re
 use app_run::Unanswered;
 use record_base::Key;
 use report_words::{Names, id_string};
-use std::alloc::Global;
+use std::alloc::{AllocError, Global};
 use std::process::Abort;
 use two_wire::Bus;
 use undo_core::Manager;
@@ -101,7 +101,7 @@ fn expect_ended(
         manager,
         outcome,
         looked,
-        names: Names::new(alloc),
+        names: Ok(Names::new(alloc)),
     };
     expect_said(rt, alloc, reverted, sentence, object);
 }
@@ -112,7 +112,7 @@ fn expect_uncalled(rt: &impl Abort, alloc: Global, outcome: Outcome, sentence: &
         manager: manager_of(rt, alloc, "stage done 0 0\ngo\ncounts 4 0\n"),
         outcome,
         looked: no_looks(alloc),
-        names: Names::new(alloc),
+        names: Ok(Names::new(alloc)),
     };
     expect_said(rt, alloc, reverted, sentence, object);
 }
@@ -133,6 +133,29 @@ sensor 5 thresholds isn't as before: somebody else set it, or the controller los
     );
 }
 
+/// Its name isn't said where memory for names was refused.
+#[test]
+fn a_record_that_differs_is_told_without_memory_for_names(rt: HostRuntime) {
+    let alloc = rt.alloc();
+    let manager = manager_of(&rt, alloc, "stage undone 0 0\ngo\ncounts 6 0\n");
+    let outcome = Outcome::Ended(manager.phase(), Ok(()));
+    let reverted = Reverted {
+        manager,
+        outcome,
+        looked: one_look(&rt, alloc, Sight::Differs),
+        names: Err(AllocError),
+    };
+    expect_said(
+        &rt,
+        alloc,
+        reverted,
+        "taken back: 2 steps; plan.undo.done has the requests that did it, and plan.undo is empty
+sensor 5 thresholds isn't as before: somebody else set it, or the controller lost it
+",
+        "{\"outcome\":\"undone\",\"steps\":2,\"stands\":0,\"records\":[{\"record\":\"sensor 5 thresholds\",\"why\":\"differs\"}],\"looked\":true,\"file\":\"plan.undo\",\"kept\":true}\n",
+    );
+}
+
 /// A sentence is printable ASCII: a quote of a name and each other byte is `\x` and its two digits. In an object a quote is escaped, and a byte is the
 /// character of Latin 1.
 #[test]
@@ -144,7 +167,7 @@ fn a_record_that_differs_has_the_name_of_its_sensor(rt: HostRuntime) {
         manager,
         outcome,
         looked: one_look(&rt, alloc, Sight::Differs),
-        names: one_name(&rt, alloc),
+        names: Ok(one_name(&rt, alloc)),
     };
     expect_said(
         &rt,

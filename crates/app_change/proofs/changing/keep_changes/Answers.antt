@@ -10,7 +10,8 @@ pub returns-in-Ok-clause-kept : goal.returns-in-Ok-clause-kept
 returns-in-Ok-clause-kept g c =
     let kept : Plan = record { steps = c.in-Ok.steps.narrowed.kept; retries = c.args.plan.now.retries } in
     keeps_changes (way_of c.args.plan.now c.args.reach.now) c.args.plan.now kept c.in-Ok.steps.names
-    (subst (λ (way : Way). KeptByLook way c.args.plan.now.steps c.in-Ok.steps.narrowed.kept c.in-Ok.steps.names) c.way_of-way.ensures c.in-Ok.ensures.kept) refl
+    (subst (λ (way : Way). KeptByLook way c.args.plan.now.steps c.in-Ok.steps.narrowed.kept c.in-Ok.steps.names) {y = way_of c.args.plan.now c.args.reach.now} c.way_of-way.ensures
+    c.in-Ok.ensures.kept) refl
 
 pub returns-in-Err-clause-fault : goal.returns-in-Err-clause-fault
 returns-in-Err-clause-fault g c = subst (λ (way : Way). FailsFor way c.args.plan.now.steps c.in-Err.why) c.way_of-way.ensures c.in-Err.ensures.fault
