@@ -110,6 +110,21 @@ def owner_of(lines, at):
     return None
 
 
+def file_of_type(folder, name, file):
+    """Returns the file that defines the type, whose module the prover names its functions by; where none does, the file of the function itself."""
+    defines = re.compile(rf"^(pub(\(\w+\))? )?(struct|enum|union) {re.escape(name)}\b", re.M)
+    if not name or defines.search(text_of(f"{folder}/{file}")):
+        return file
+    found = [it for it in sources_of(folder) if defines.search(text_of(f"{folder}/{it}"))]
+    return found[0] if len(found) == 1 else file
+
+
+def sources_of(folder):
+    """Returns the source files of a crate."""
+    below = [f"{at}/{it}" for at, _, names in os.walk(f"{folder}/src") for it in sorted(names) if it.endswith(".rt")]
+    return [os.path.relpath(it, folder) for it in below]
+
+
 def place_of(folder, file, old):
     """Returns the function in whose body or head the text stands, or None where it stands elsewhere."""
     if not file.startswith("src/") or not os.path.isfile(f"{folder}/{file}"):
@@ -126,7 +141,8 @@ def place_of(folder, file, old):
     owner = owner_of(lines, first) if indent else ""
     if last < at or owner is None:
         return None
-    path = "::".join(it for it in (module_of(file), owner, name) if it)
+    home = file_of_type(folder, owner, file)
+    path = "::".join(it for it in (module_of(home), owner, name) if it)
     return Place(path, file, first, last)
 
 
